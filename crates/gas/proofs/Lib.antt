@@ -1,0 +1,3 @@
+pub mod GasLaws
+pub mod PaperLaws
+pub mod ExampleLaws

@@ -1,0 +1,4 @@
+pub mod Gas
+pub mod Paper
+pub mod Examples
+pub mod Plain

@@ -1,0 +1,7 @@
+pub mod NumLaws
+pub mod CellLaws
+pub mod SumLaws
+pub mod WholeLaws
+pub mod StoreLaws
+pub mod TestLaws
+pub mod TableLaws

@@ -1,0 +1,34 @@
+-- Boolean tests and what they say.
+use mathlib.Core.Bool.{Bool, true, false, _&&_, _||_}
+use mathlib.Core.Logic.{_⊎_, inl, inr}
+use mathlib.Core.Path.{_≡_, refl, sym}
+
+-- one test for another, where each holds if the other does
+pub same-test : (x y : Bool) → (x ≡ true → y ≡ true) → (y ≡ true → x ≡ true) → x ≡ y
+same-test true true f g = refl
+same-test true false f g = sym (f refl)
+same-test false true f g = g refl
+same-test false false f g = refl
+
+pub both : (x y : Bool) → (x && y) ≡ true → (x ≡ true) × (y ≡ true)
+both true true e = (refl, refl)
+both true false e = (refl, e)
+both false true e = (e, refl)
+both false false e = (e, e)
+
+pub both-intro : (x y : Bool) → x ≡ true → y ≡ true → (x && y) ≡ true
+both-intro true y p q = q
+both-intro false y p q = p
+
+pub either : (x y : Bool) → (x || y) ≡ true → (x ≡ true) ⊎ (y ≡ true)
+either true y e = inl refl
+either false y e = inr e
+
+pub either-left : (x y : Bool) → x ≡ true → (x || y) ≡ true
+either-left true y e = refl
+either-left false true e = refl
+either-left false false e = e
+
+pub either-right : (x y : Bool) → y ≡ true → (x || y) ≡ true
+either-right true y e = refl
+either-right false y e = e

@@ -1,0 +1,39 @@
+-- `number::write::put_u32` meets its contract: `sets-then` joins the two runs, and `be-cut` their bytes.
+use Prim.Native.Nat.{_/_, _%_}
+use mathlib.Core.Path.{_∙_, sym, ap}
+use lib.Seq.{sets}
+use borrow.Author.Needs.{needs}
+use Rattle.number.specs.Num.{be}
+use Rattle.number.proofs.NumLaws.{be-cut}
+use Rattle.number.proofs.StoreLaws.{sets-then}
+use Rattle.number.proofs.write.put_u32.Statement.{statement}
+use Rattle.number.proofs.write.put_u32.Tie as tie
+
+cast-put-u8 : tie.Need-cast-put-u8
+cast-put-u8 c = search needs
+
+put-u8-requires : tie.Need-put-u8-requires
+put-u8-requires c κs = search needs
+
+add-put-u24 : tie.Need-add-put-u24
+add-put-u24 c = search needs
+
+put-u24-requires : tie.Need-put-u24-requires
+put-u24-requires c κs = search needs
+
+same-length : tie.Need-same-length
+same-length c = search needs
+
+returns : tie.Need-returns
+returns c =
+    let last = c .before .before in
+    let first = last .before .before .before .before in
+    let a = first .before .before .before .args in
+    last .put-u24 .ensures
+    ∙ sets-then (a .buf .now) (a .at) 1 (a .v / 16777216) (be 3 (a .v % 16777216)) (first .put-u8 .ensures)
+    ∙ ap (sets (a .buf .now) (a .at)) (sym (be-cut 1 3 (a .v)))
+
+pub put-u32-spec : {M : Type 1} → statement M
+put-u32-spec =
+    tie.close
+    (tie.spec cast-put-u8 put-u8-requires add-put-u24 put-u24-requires same-length returns)

@@ -1,0 +1,4 @@
+pub mod Num
+pub mod Cells
+pub mod Sums
+pub mod Whole

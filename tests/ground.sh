@@ -1,0 +1,15 @@
+#!/usr/bin/env bash
+# `bin/ground` from another folder prints what the vectors say, and a program without its vectors says so and counts nothing.
+set -euo pipefail
+root=$(cd "$(dirname "${BASH_SOURCE[0]}")/.." && pwd)
+room=$(mktemp -d)
+trap 'rm -rf "$room"' EXIT
+
+cd "$room"
+"$root/bin/ground" > out
+cmp out "$root/crates/ground/stdout"
+
+"$root/target/bin/ground" > none 2> said
+[ ! -s none ]
+[ "$(grep -c . said)" -eq 7 ]
+echo "bin/ground prints the kept answers"

@@ -1,0 +1,23 @@
+#!/usr/bin/env bash
+# Each must-fail edit was refused at a fact: the first error that the prover gives stands in a proof, and does not only say that a
+# proof file no longer fits the code. `rt ci` has tried the edits and left their logs.
+set -euo pipefail
+cd "$(dirname "${BASH_SOURCE[0]}")/.."
+
+edits=0
+unfit=0
+for edit in crates/*/must-fail/*.edit; do
+    crate=$(basename "$(dirname "$(dirname "$edit")")")
+    log=target/must-fail/$crate/$(basename "$edit" .edit)/.log
+    edits=$((edits + 1))
+    first=$(grep -m 1 -e ': error' "$log" || true)
+    case $first in
+        *"can be named from here"* | *"is not in scope"* | *"Parse"* | *"does not cover"*) reason="only makes a proof unfit" ;;
+        */proofs/*) continue ;;
+        *) reason="is not refused in a proof" ;;
+    esac
+    unfit=$((unfit + 1))
+    printf '%s %s: %.300s\n' "$edit" "$reason" "$first" >&2
+done
+[ "$edits" -gt 0 ] && [ "$unfit" -eq 0 ]
+echo "$edits must-fail edits, each refused at a fact"
