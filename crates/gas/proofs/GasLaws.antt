@@ -4,7 +4,7 @@ use mathlib.Core.Path.{_≡_, refl}
 use native.Mathlib.Nat.{le-of-lt, lt-of-le-of-lt, mul-le-mul, mul-le-mul-left, mul-lt-mul-of-pos-right}
 use native.Mathlib.Omega.{arith}
 use lib.Pow.{pow-pos}
-use Rattle.gas.specs.Gas.{words, cost, Parts, joined, split}
+use Rattle.gas.specs.Gas.{wordGas, words, cost, Parts, joined, split}
 
 pub words-monotone : {a b : ℕ} → a ≤ b → words a ≤ words b
 unfolding words
@@ -25,7 +25,7 @@ pub square-fits : {a : ℕ} → a < 2 ^ 32 → a * a < 2 ^ 64
 square-fits {a} h = lt-of-le-of-lt (mul-le-mul-left a (le-of-lt h)) (mul-lt-mul-of-pos-right h (pow-pos 32))
 
 -- the cost's second summand is the split's first part
-pub cost-split : (a : ℕ) → cost a ≡ 3 * a + split a .q2
+pub cost-split : (a : ℕ) → cost a ≡ wordGas * a + split a .q2
 unfolding cost split
 cost-split a = refl
 

@@ -5,6 +5,13 @@ ghost use Prim.Native.Nat.{_*_, _^_, _<_};
 ghost use Rattle.gas.specs.Gas.{words, cost, split};
 ghost use Rattle.gas.specs.Plain.{parts};
 
+// The bytes of an EVM word, the gas of a word, and the divisor of the square in the cost.
+pub const WORD_BYTES: u32 = 32;
+
+pub const WORD_GAS: u64 = 3;
+
+pub const SQUARE_DIVISOR: u64 = 512;
+
 // A count of bytes of memory.
 pub struct Bytes(pub u32);
 
@@ -25,8 +32,12 @@ pub struct Split {
 pub fn words_of(b: Bytes) -> Words
     ensures { λ r. ⌜ r .0 ≡ words (b .0) ⌝ }
 {
-    let n = b.0;
-    Words(n / 32 + (n % 32 + 31) / 32)
+    let whole = b.0 / WORD_BYTES;
+    if b.0 % WORD_BYTES == 0 {
+        Words(whole)
+    } else {
+        Words(whole + 1)
+    }
 }
 
 // What a memory of so many words costs.
@@ -34,7 +45,7 @@ pub fn cost_of(a: Words) -> Gas
     ensures { λ r. ⌜ r .0 ≡ cost (a .0) ⌝ }
 {
     let n = a.0 as u64;
-    Gas(3 * n + square(n) / 512)
+    Gas(WORD_GAS * n + square(n) / SQUARE_DIVISOR)
 }
 
 // The parts of the square of so many words.
@@ -43,12 +54,13 @@ pub fn split_of(a: Words) -> Split
 {
     let s = square(a.0 as u64);
     Split {
-        q2: s / 512,
-        e: (s % 512 / 256) as u8,
+        q2: s / SQUARE_DIVISOR,
+        e: (s % SQUARE_DIVISOR / 256) as u8,
         low: (s % 256) as u8,
     }
 }
 
+// The square of a number of 32 bits.
 fn square(n: u64) -> u64
     requires { ⌜ n < 2 ^ 32 ⌝ }
     ensures { λ r. ⌜ (r ≡ n * n) × (r < 2 ^ 64) ⌝ }

@@ -1,4 +1,4 @@
--- What a vector of each kind says, in the first of its 64 bytes, by the definitions of `number` and `gas`, and how many of a file's vectors are wrong.
+-- What a vector of each kind says, in the first of its bytes, by the definitions of `number` and `gas`, and how many of a file's vectors are wrong.
 use Prim.Native.Nat.{ℕ, zero, suc, _+_, _*_, _-_, _/_, _%_, _^_}
 use mathlib.Core.Bool.{Bool, true, false, not, _&&_}
 use mathlib.Core.List.{List, [], _∷_}
@@ -56,12 +56,16 @@ agrees Steps t p = stepsAgree t p
 agrees Differences t p = differencesAgree t p
 agrees Cells t p = true
 
+-- the bytes that a vector stands in
+abbrev pub vectorBytes : ℕ
+vectorBytes = 64
+
 -- how many of the first n vectors are wrong
 unfoldable pub wrongs : Kind → List ℕ → ℕ → ℕ
 wrongs k t zero = 0
-wrongs k t (suc n) = wrongs k t n + bit (not (agrees k t (n * 64)))
+wrongs k t (suc n) = wrongs k t n + bit (not (agrees k t (n * vectorBytes)))
 
--- how many whole vectors, of 64 bytes each, a file holds, and how many of them are wrong
+-- how many whole vectors a file holds, and how many of them are wrong
 pub record Tallied (k : Kind) (t : List ℕ) (vectors wrong : ℕ) : Type 0 where
-  pub whole : vectors ≡ length t / 64
+  pub whole : vectors ≡ length t / vectorBytes
   pub count : wrong ≡ wrongs k t vectors

@@ -6,7 +6,7 @@ ghost use Prim.Native.Nat.{_+_, _*_, _≤_, _<_};
 ghost use lib.ListN.{length};
 ghost use lib.Seq.{sets};
 ghost use Rattle.number.specs.Cells.{encode, decode};
-ghost use Rattle.ground.specs.Agree.{agrees, bit, costsAgree, splitsAgree, ordersAgree, stepsAgree, differencesAgree, widths, Tallied};
+ghost use Rattle.ground.specs.Agree.{agrees, bit, costsAgree, splitsAgree, ordersAgree, stepsAgree, differencesAgree, widths, vectorBytes, Tallied};
 use gas::Bytes;
 use gas::Words;
 use libc::STDOUT_FILENO;
@@ -22,6 +22,9 @@ use number::wide::minus_bound;
 use number::wide::push;
 use number::wide::same;
 use number::wide::small;
+
+// The bytes that a vector stands in.
+const VECTOR_BYTES: usize = 64;
 
 // What the vectors of a file are about.
 pub enum Kind {
@@ -114,7 +117,7 @@ fn cells_agree(t: &[u8], p: usize) -> bool
 
 // Whether the vector at p says what is so.
 fn agree(kind: Kind, t: &[u8], p: usize) -> bool
-    requires { ⌜ p + 64 ≤ length (now t) ⌝ }
+    requires { ⌜ p + vectorBytes ≤ length (now t) ⌝ }
     ensures { λ r. ⌜ r ≡ agrees kind (now (t .entry)) p ⌝ }
 {
     match kind {
@@ -131,11 +134,11 @@ fn agree(kind: Kind, t: &[u8], p: usize) -> bool
 fn tallied(kind: Kind, t: &[u8]) -> Tally
     ensures { λ r. ⌜ Tallied kind (now (t .entry)) (r .vectors) (r .wrong) ⌝ }
 {
-    let n = t.len() / 64;
+    let n = t.len() / VECTOR_BYTES;
     let mut wrong: usize = 0;
     let mut k: usize = 0;
     while k < n {
-        let ok = agree(kind, t, k * 64);
+        let ok = agree(kind, t, k * VECTOR_BYTES);
         wrong += as_bit(!ok) as usize;
         k += 1;
     }
@@ -163,10 +166,10 @@ fn show_cost(end: Bytes) {
 
 // Prints a line for each vector of a file of costs.
 fn show_costs(t: &[u8]) {
-    let n = t.len() / 64;
+    let n = t.len() / VECTOR_BYTES;
     let mut k: usize = 0;
     while k < n {
-        show_cost(Bytes(u32_at(t, k * 64)));
+        show_cost(Bytes(u32_at(t, k * VECTOR_BYTES)));
         k += 1;
     }
 }

@@ -1,4 +1,5 @@
-// Big-endian numbers of 1, 3, 4 and 17 bytes, read from a slice of bytes. A caller sees to it that the bytes are there.
+// Big-endian numbers of 1, 3, 4 and 17 bytes, read from a slice of bytes. Only crates of this repository call these
+// readers: each asks that its bytes are there.
 ghost use mathlib.Core.Path.{_≡_};
 ghost use Prim.Native.Nat.{_+_, _*_, _≤_, _<_};
 ghost use lib.ListN.{length};
@@ -6,13 +7,14 @@ ghost use Rattle.number.specs.Num.{num};
 ghost use Rattle.number.specs.Whole.{val};
 use crate::wide::Wide;
 
+// A cast as a call: its contract hands the bound on.
 fn as_u64(x: u32) -> u64
     ensures { λ r. ⌜ (r ≡ x) × (r < 4294967296) ⌝ }
 {
     x as u64
 }
 
-// Two bytes, the first the more significant, and three.
+// The number in two bytes, and in three.
 fn two(a: u8, b: u8) -> u32
     ensures { λ r. ⌜ (r ≡ a * 256 + b) × (r < 65536) ⌝ }
 {
@@ -25,6 +27,7 @@ fn three(a: u8, b: u8, c: u8) -> u32
     two(a, b) * 256 + (c as u32)
 }
 
+// The byte at p.
 pub fn u8_at(t: &[u8], p: usize) -> u8
     requires { ⌜ p + 1 ≤ length (now t) ⌝ }
     ensures { λ r. ⌜ r ≡ num (now (t .entry)) p 1 ⌝ }
@@ -32,6 +35,7 @@ pub fn u8_at(t: &[u8], p: usize) -> u8
     t[p]
 }
 
+// The number in the three bytes from p on.
 pub fn u24_at(t: &[u8], p: usize) -> u32
     requires { ⌜ p + 3 ≤ length (now t) ⌝ }
     ensures { λ r. ⌜ r ≡ num (now (t .entry)) p 3 ⌝ }
@@ -39,6 +43,7 @@ pub fn u24_at(t: &[u8], p: usize) -> u32
     three(t[p], t[p + 1], t[p + 2])
 }
 
+// The number in the four bytes from p on.
 pub fn u32_at(t: &[u8], p: usize) -> u32
     requires { ⌜ p + 4 ≤ length (now t) ⌝ }
     ensures { λ r. ⌜ r ≡ num (now (t .entry)) p 4 ⌝ }
@@ -46,6 +51,7 @@ pub fn u32_at(t: &[u8], p: usize) -> u32
     two(t[p], t[p + 1]) * 65536 + two(t[p + 2], t[p + 3])
 }
 
+// The number in the eight bytes from p on, by its halves.
 fn u64_at(t: &[u8], p: usize) -> u64
     requires { ⌜ p + 8 ≤ length (now t) ⌝ }
     ensures { λ r. ⌜ r ≡ num (now (t .entry)) p 8 ⌝ }
@@ -53,6 +59,7 @@ fn u64_at(t: &[u8], p: usize) -> u64
     as_u64(u32_at(t, p)) * 4294967296 + as_u64(u32_at(t, p + 4))
 }
 
+// The number in the 17 bytes from p on.
 pub fn wide_at(t: &[u8], p: usize) -> Wide
     requires { ⌜ p + 17 ≤ length (now t) ⌝ }
     ensures { λ r. ⌜ val r ≡ num (now (t .entry)) p 17 ⌝ }

@@ -14,8 +14,8 @@ pub struct Wide {
 // The first end that is out of bounds, 2^24.
 pub const BOUND: u64 = 16777216;
 
-// 2^56: what a byte is worth that a shift by one byte moves from one part to the next.
-const LAST_SEVEN: u64 = 72057594037927936;
+// What the first of eight bytes counts, 2^56: a shift by one byte moves that byte on to the part before.
+const FIRST_OF_EIGHT: u64 = 72057594037927936;
 
 // The 17 bytes of a small number.
 pub fn small(n: u64) -> Wide
@@ -44,16 +44,16 @@ pub fn less(a: Wide, b: Wide) -> bool
         | ((a.top == b.top) & (a.hi == b.hi) & (a.lo < b.lo))
 }
 
-// 256 times p, plus the byte b, where p's first byte is what no longer has room.
+// 256 times p, plus the byte b, but for p's first byte, which no longer has room.
 pub fn push(p: Wide, b: u8) -> Wide
     ensures { λ r. ⌜ p .top * 256 ^ 17 + val r ≡ 256 * val p + b ⌝ }
 {
-    let lo_top = p.lo / LAST_SEVEN;
-    let hi_top = p.hi / LAST_SEVEN;
+    let from_lo = p.lo / FIRST_OF_EIGHT;
+    let from_hi = p.hi / FIRST_OF_EIGHT;
     Wide {
-        top: hi_top as u8,
-        hi: (p.hi % LAST_SEVEN) * 256 + lo_top,
-        lo: (p.lo % LAST_SEVEN) * 256 + (b as u64),
+        top: from_hi as u8,
+        hi: (p.hi % FIRST_OF_EIGHT) * 256 + from_lo,
+        lo: (p.lo % FIRST_OF_EIGHT) * 256 + (b as u64),
     }
 }
 

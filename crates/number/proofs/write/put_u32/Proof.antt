@@ -1,11 +1,6 @@
--- `number::write::put_u32` meets its contract: `sets-then` joins the two runs, and `be-cut` their bytes.
-use Prim.Native.Nat.{_/_, _%_}
-use mathlib.Core.Path.{_∙_, sym, ap}
-use lib.Seq.{sets}
+-- `number::write::put_u32` meets its contract: `sets-cut` joins the two parts.
 use borrow.Author.Needs.{needs}
-use Rattle.number.specs.Num.{be}
-use Rattle.number.proofs.NumLaws.{be-cut}
-use Rattle.number.proofs.StoreLaws.{sets-then}
+use Rattle.number.proofs.StoreLaws.{sets-cut}
 use Rattle.number.proofs.write.put_u32.Statement.{statement}
 use Rattle.number.proofs.write.put_u32.Tie as tie
 
@@ -29,9 +24,7 @@ returns c =
     let last = c .before .before in
     let first = last .before .before .before .before in
     let a = first .before .before .before .args in
-    last .put-u24 .ensures
-    ∙ sets-then (a .buf .now) (a .at) 1 (a .v / 16777216) (be 3 (a .v % 16777216)) (first .put-u8 .ensures)
-    ∙ ap (sets (a .buf .now) (a .at)) (sym (be-cut 1 3 (a .v)))
+    sets-cut (a .buf .now) (a .at) 1 3 (a .v) (first .put-u8 .ensures) (last .put-u24 .ensures)
 
 pub put-u32-spec : {M : Type 1} → statement M
 put-u32-spec =

@@ -1,11 +1,6 @@
--- `number::write::put_u64` meets its contract: `sets-then` joins the two runs, and `be-cut` their bytes.
-use Prim.Native.Nat.{_/_, _%_}
-use mathlib.Core.Path.{_∙_, sym, ap}
-use lib.Seq.{sets}
+-- `number::write::put_u64` meets its contract: `sets-cut` joins the two parts.
 use borrow.Author.Needs.{needs}
-use Rattle.number.specs.Num.{be}
-use Rattle.number.proofs.NumLaws.{be-cut}
-use Rattle.number.proofs.StoreLaws.{sets-then}
+use Rattle.number.proofs.StoreLaws.{sets-cut}
 use Rattle.number.proofs.write.put_u64.Statement.{statement}
 use Rattle.number.proofs.write.put_u64.Tie as tie
 
@@ -32,9 +27,7 @@ returns c =
     let last = c .before .before in
     let first = last .before .before .before .before in
     let a = first .before .before .before .args in
-    last .put-u322 .ensures
-    ∙ sets-then (a .buf .now) (a .at) 4 (a .v / 4294967296) (be 4 (a .v % 4294967296)) (first .put-u32 .ensures)
-    ∙ ap (sets (a .buf .now) (a .at)) (sym (be-cut 4 4 (a .v)))
+    sets-cut (a .buf .now) (a .at) 4 4 (a .v) (first .put-u32 .ensures) (last .put-u322 .ensures)
 
 pub put-u64-spec : {M : Type 1} → statement M
 put-u64-spec =
