@@ -36,16 +36,20 @@ pub enum Kind {
     Cells,
 }
 
+// How many vectors a file has, and how many of them are wrong.
 pub struct Tally {
     pub vectors: usize,
     pub wrong: usize,
 }
 
+// 1 for true.
 fn as_bit(x: bool) -> u8
     ensures { λ r. ⌜ (r ≡ bit x) × (r ≤ 1) ⌝ }
 {
     if x { 1 } else { 0 }
 }
+
+// Whether the vector at p says what is so: a function for each kind, whose definition says where its numbers stand.
 
 fn costs_agree(t: &[u8], p: usize) -> bool
     requires { ⌜ p + 25 ≤ length (now t) ⌝ }
@@ -106,6 +110,7 @@ fn copy_cells(t: &[u8], p: usize, out: &mut [u8])
     number::write::put_wide(out, 8, wide_at(t, p + 8));
 }
 
+// Whether the four cells at p, read and written, are the same bytes. They always are.
 fn cells_agree(t: &[u8], p: usize) -> bool
     requires { ⌜ p + 25 ≤ length (now t) ⌝ }
     ensures { λ r. ⌜ r ≡ true ⌝ }
@@ -115,7 +120,7 @@ fn cells_agree(t: &[u8], p: usize) -> bool
     check::same(&out, &t[p..p + 25])
 }
 
-// Whether the vector at p says what is so.
+// The same for a vector of any kind.
 fn agree(kind: Kind, t: &[u8], p: usize) -> bool
     requires { ⌜ p + vectorBytes ≤ length (now t) ⌝ }
     ensures { λ r. ⌜ r ≡ agrees kind (now (t .entry)) p ⌝ }
@@ -145,6 +150,7 @@ fn tallied(kind: Kind, t: &[u8]) -> Tally
     Tally { vectors: n, wrong }
 }
 
+// Prints a number behind its key.
 fn put(key: &[u8], n: u64) {
     io::write_all(STDOUT_FILENO, key);
     io::print_decimal(STDOUT_FILENO, n);
