@@ -11,5 +11,5 @@ cmp out "$root/crates/ground/stdout"
 
 "$root/target/bin/ground" > none 2> said
 [ ! -s none ]
-[ "$(grep -c . said)" -eq 7 ]
+[ "$(grep -c . said)" -eq 12 ]
 echo "bin/ground prints the kept answers"

@@ -1,6 +1,7 @@
 #!/usr/bin/env bash
-# Each must-fail edit was refused at a fact: the first error that the prover gives stands in a proof, and does not only say that a
-# proof file no longer fits the code. `rt ci` has tried the edits and left their logs.
+# Each must-fail edit was refused in a proof, and not because a proof file names something that is not there any more. That the edited
+# program is wrong is not seen here: docs/DEMANDS.md names for each edit an input on which the two differ. `rt ci` has tried the edits and
+# left their logs.
 set -euo pipefail
 cd "$(dirname "${BASH_SOURCE[0]}")/.."
 
@@ -12,7 +13,7 @@ for edit in crates/*/must-fail/*.edit; do
     edits=$((edits + 1))
     first=$(grep -m 1 -e ': error' "$log" || true)
     case $first in
-        *"can be named from here"* | *"is not in scope"* | *"Parse"* | *"does not cover"*) reason="only makes a proof unfit" ;;
+        *"can be named from here"* | *"is not in scope"* | *"Parse"* | *"does not cover"*) reason="makes a proof name what is not there" ;;
         */proofs/*) continue ;;
         *) reason="is not refused in a proof" ;;
     esac
@@ -20,4 +21,4 @@ for edit in crates/*/must-fail/*.edit; do
     printf '%s %s: %.300s\n' "$edit" "$reason" "$first" >&2
 done
 [ "$edits" -gt 0 ] && [ "$unfit" -eq 0 ]
-echo "$edits must-fail edits, each refused at a fact"
+echo "$edits must-fail edits, each refused in a proof"

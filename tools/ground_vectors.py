@@ -74,18 +74,39 @@ DIFFERENCES = [
     for n in [0, 1, 5, 6, 2**24, 2**32 - 1]
 ]
 
-CELLS = [bytes(VECTOR), bytes([255]) * VECTOR, bytes(range(VECTOR))]
-CELLS += [bytes(random.randrange(256) for _ in range(VECTOR)) for _ in range(13)]
+CELLS = [
+    cells((one, 1), (three, 3), (four, 4), (wide, WIDE), (three, 4))
+    for one, three, four, wide in [(0, 0, 0, 0), (255, 2**24 - 1, 2**32 - 1, 256**17 - 1), (1, 0x020304, 0x05060708, 9), (0, 255, 0, 1), (0, 256, 0, 1), (0, 65536, 0, 1)]
+    + [(random.randrange(256), random.randrange(2**24), random.randrange(2**32), random.randrange(256**17)) for _ in range(10)]
+]
 
-FILES = {
-    "costs.bin": (costs(ENDS), 0),
-    "costs_wrong.bin": (COSTS_WRONG, len(COSTS_WRONG)),
-    "splits.bin": (SPLITS, 0),
-    "orders.bin": (ORDERS, 0),
-    "steps.bin": (STEPS, 0),
-    "differences.bin": (DIFFERENCES, 0),
-    "cells.bin": (CELLS, 0),
+
+def damaged(vectors, first, end):
+    """The first and the last vector with one bit of one answer byte turned, each byte of the answers in its turn."""
+    out = []
+    for vector in (vectors[0], vectors[-1]):
+        for place in range(first, end):
+            wrong = bytearray(vector)
+            wrong[place] ^= 1
+            out.append(bytes(wrong))
+    return out
+
+
+# each kind's right vectors, and where its answers stand in them
+KINDS = {
+    "costs": (costs(ENDS), 4, 25),
+    "splits": (SPLITS, 4, 23),
+    "orders": (ORDERS, 34, 37),
+    "steps": (STEPS, 35, 53),
+    "differences": (DIFFERENCES, 21, 55),
+    "cells": (CELLS, 25, 29),
 }
+
+FILES = {}
+for kind, (vectors, first, end) in KINDS.items():
+    wrong = damaged(vectors, first, end) + (COSTS_WRONG if kind == "costs" else [])
+    FILES[kind + ".bin"] = (vectors, 0)
+    FILES[kind + "_wrong.bin"] = (wrong, len(wrong))
 
 lines = [f"end={e} words={words(e)} cost={cost(words(e))}" for e in ENDS]
 (HERE / "data").mkdir(exist_ok=True)

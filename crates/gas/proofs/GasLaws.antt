@@ -4,11 +4,7 @@ use mathlib.Core.Path.{_≡_, refl}
 use native.Mathlib.Nat.{le-of-lt, lt-of-le-of-lt, mul-le-mul, mul-le-mul-left, mul-lt-mul-of-pos-right}
 use native.Mathlib.Omega.{arith}
 use lib.Pow.{pow-pos}
-use Rattle.gas.specs.Gas.{wordGas, words, cost, Parts, joined, split}
-
-pub words-monotone : {a b : ℕ} → a ≤ b → words a ≤ words b
-unfolding words
-words-monotone h = omega arith
+use Rattle.gas.specs.Gas.{wordGas, words, cost, Parts, InRange, joined, split}
 
 -- the words of a maximum are the maximum of the words
 pub words-max : (a b : ℕ) → words (max a b) ≡ max (words a) (words b)
@@ -33,11 +29,6 @@ cost-split a = refl
 
 pub parts-path : (p r : Parts) → p .q2 ≡ r .q2 → p .e ≡ r .e → p .low ≡ r .low → p ≡ r
 parts-path p r q e l = λ i. record { q2 = q i; e = e i; low = l i }
-
--- e is a bit, and the last byte is one
-pub record InRange (p : Parts) : Type 0 where
-  pub bit : p .e ≤ 1
-  pub byte : p .low < 256
 
 pub split-in-range : (a : ℕ) → InRange (split a)
 unfolding split

@@ -1,5 +1,5 @@
 -- Bytes, EVM words and gas, as document 01 has them, on whole numbers.
-use Prim.Native.Nat.{ℕ, zero, suc, _+_, _*_, _-_, _/_, _%_}
+use Prim.Native.Nat.{ℕ, zero, suc, _+_, _*_, _-_, _/_, _%_, _≤_, _<_}
 
 -- the bytes of an EVM word, the gas of a word, and the divisor of the square in the cost
 abbrev pub wordBytes : ℕ
@@ -29,6 +29,11 @@ pub record Parts : Type 0 where
   pub q2 : ℕ
   pub e : ℕ
   pub low : ℕ
+
+-- e is a bit, and the last byte is one
+pub record InRange (p : Parts) : Type 0 where
+  pub bit : p .e ≤ 1
+  pub byte : p .low < 256
 
 -- the number that the parts stand for: 512*Q2 + 256*e + the last byte
 unfoldable pub joined : Parts → ℕ

@@ -44,9 +44,12 @@ unfoldable pub differencesAgree : List ℕ → ℕ → Bool
 differencesAgree t p =
     eqb (num t p 17 - num t (p + 17) 4) (num t (p + 21) 17) && eqb (num t p 17 - bound) (num t (p + 38) 17)
 
--- cells of 1, 3, 4 and 17 bytes: reading and writing them gives the same bytes
+-- cells of 1, 3, 4 and 17 bytes, and the second of them once more, in four bytes
 abbrev pub widths : List ℕ
 widths = 1 ∷ 3 ∷ 4 ∷ 17 ∷ []
+
+unfoldable pub cellsAgree : List ℕ → ℕ → Bool
+cellsAgree t p = eqb (num t (p + 1) 3) (num t (p + 25) 4)
 
 abbrev pub agrees : Kind → List ℕ → ℕ → Bool
 agrees Costs t p = costsAgree t p
@@ -54,7 +57,7 @@ agrees Splits t p = splitsAgree t p
 agrees Orders t p = ordersAgree t p
 agrees Steps t p = stepsAgree t p
 agrees Differences t p = differencesAgree t p
-agrees Cells t p = true
+agrees Cells t p = cellsAgree t p
 
 -- the bytes that a vector stands in
 abbrev pub vectorBytes : ℕ

@@ -17,7 +17,7 @@ length-be zero v = refl
 length-be (suc w) v = rw (length-append, length-be w (v / 256)) (omega arith)
 
 -- a number is read from the list that holds all of its bytes, whatever stands behind
-pub num-append : (xs ys : List ℕ) (p w : ℕ) → p + w ≤ length xs → num (xs ++ ys) p w ≡ num xs p w
+num-append : (xs ys : List ℕ) (p w : ℕ) → p + w ≤ length xs → num (xs ++ ys) p w ≡ num xs p w
 unfolding num
 num-append xs ys p zero h = refl
 num-append xs ys p (suc w) h =
@@ -26,7 +26,7 @@ num-append xs ys p (suc w) h =
     cc
 
 -- and whatever stands before
-pub num-shift : (xs ys : List ℕ) (p w : ℕ) → num (xs ++ ys) (length xs + p) w ≡ num ys p w
+num-shift : (xs ys : List ℕ) (p w : ℕ) → num (xs ++ ys) (length xs + p) w ≡ num ys p w
 unfolding num
 num-shift xs ys p zero = refl
 num-shift xs ys p (suc w) =

@@ -10,7 +10,7 @@ use Rattle.number.specs.Num.{be}
 use Rattle.number.proofs.NumLaws.{length-be, be-cut}
 
 -- two runs, the second where the first ends, are one
-pub sets-sets : (l : List ℕ) (i : ℕ) (a b : List ℕ) → sets (sets l i a) (i + length a) b ≡ sets l i (a ++ b)
+sets-sets : (l : List ℕ) (i : ℕ) (a b : List ℕ) → sets (sets l i a) (i + length a) b ≡ sets l i (a ++ b)
 sets-sets l i [] b = rw add-zero
 sets-sets l i (x ∷ a) b = rw (add-suc, ← suc-add) (sets-sets (set l i x) (suc i) a b)
 

@@ -1,55 +1,29 @@
--- `ground::cells_agree` meets its contract: the cells written are the bytes read (`cells-over`), so the comparison finds them equal.
-use Prim.Native.Nat.{_+_, _-_}
-use mathlib.Core.Path.{_≡_, _∙_, refl}
-use native.Mathlib.Omega.{arith}
+-- `ground::cells_agree` meets its contract: the comparison holds, so what is left is that of the two numbers.
 use borrow.Author.Needs.{needs}
-use Rattle.ground.proofs.AgreeLaws.{cells-over}
+use Rattle.ground.specs.Agree.{cellsAgree}
 use Rattle.ground.proofs.cells_agree.Statement.{statement}
 use Rattle.ground.proofs.cells_agree.Tie as tie
 
-slice-aggregate-copy-cells : tie.Need-slice-aggregate-copy-cells
-slice-aggregate-copy-cells c = search needs
+copies-back-requires : tie.Need-copies-back-requires
+copies-back-requires c κs = search needs
 
-copy-cells-requires : tie.Need-copy-cells-requires
-copy-cells-requires c κs = search needs
+add-u24-at : tie.Need-add-u24-at
+add-u24-at c = search needs
 
-slice-aggregate-same : tie.Need-slice-aggregate-same
-slice-aggregate-same c = search needs
+u24-at-requires : tie.Need-u24-at-requires
+u24-at-requires c κs = search needs
 
-add-same : tie.Need-add-same
-add-same c = search needs
+add-u32-at : tie.Need-add-u32-at
+add-u32-at c = search needs
 
-sub-same : tie.Need-sub-same
-sub-same c = search needs
-
-part-same-start : tie.Need-part-same-start
-part-same-start c = search needs
-
-part-same-end : tie.Need-part-same-end
-part-same-end c = search needs
-
-same-requires : tie.Need-same-requires
-same-requires c κs = search needs
+u32-at-requires : tie.Need-u32-at-requires
+u32-at-requires c κs = search needs
 
 returns : tie.Need-returns
-returns c =
-    let copied = c .before .before .before .before in
-    let start = copied .before .before .before in
-    let a = start .args in
-    let n : a .p + 25 - a .p ≡ 25 = omega arith in
-    c .same .ensures .1
-    (rw n (copied .copy-cells .ensures ∙ cells-over _ (a .t .now) (a .p) (λ i h. omega (arith, copied .before .before .shared-slice-known .given i)) (start .pre) refl))
+unfolding cellsAgree
+returns c = cc
 
 pub cells-agree-spec : {M : Type 1} → statement M
 cells-agree-spec =
     tie.close
-    (tie.spec
-    slice-aggregate-copy-cells
-    copy-cells-requires
-    slice-aggregate-same
-    add-same
-    sub-same
-    part-same-start
-    part-same-end
-    same-requires
-    returns)
+    (tie.spec copies-back-requires add-u24-at u24-at-requires add-u32-at u32-at-requires returns)
