@@ -2,7 +2,7 @@
 -- its prefixes; and the digits of any v below 256 ^ (m + 1) sum up to v.
 use Prim.Native.Nat.{ℕ, zero, suc, _+_, _-_, _/_, _%_, _^_, _<_, _≤_}
 use mathlib.Core.Path.{_≡_, sym, _∙_, ap}
-use native.Mathlib.Nat.{add-zero, div-one, pow-suc, div-div-eq-div-mul, div-lt-iff-lt-mul, one-le-pow, sub-self, sub-zero}
+use native.Mathlib.Nat.{add-zero, div-one, pow-suc, div-div-eq-div-mul, div-lt-iff-lt-mul, one-le-pow, sub-self, sub-zero, zero-div}
 use native.Mathlib.Omega.{arith}
 use Rattle.number.specs.Sums.{SumsUp, ByteRows, prefixAt, digitAt}
 
@@ -58,3 +58,12 @@ prefix-first m v h = div-lt-iff-lt-mul (one-le-pow (m - 0) 256 (omega arith)) .1
 pub digits-sum-up : (m v : ℕ) → v < 256 ^ suc m → SumsUp m (digitAt m v) (prefixAt m v)
 unfolding digitAt
 digits-sum-up m v h = record { first = omega (arith, prefix-first m v h); next = λ i k. omega (arith, prefix-step m v i k) }
+
+-- the digits of 0, and its prefixes
+pub prefix-zero : (m i : ℕ) → prefixAt m 0 i ≡ 0
+unfolding prefixAt
+prefix-zero m i = zero-div (256 ^ (m - i))
+
+pub digit-zero : (m i : ℕ) → digitAt m 0 i ≡ 0
+unfolding digitAt
+digit-zero m i = rw prefix-zero

@@ -5,6 +5,7 @@ use mathlib.Core.List.{List, [], _∷_}
 use native.Mathlib.Nat.{le-of-suc-le-suc, not-suc-le-zero}
 use lib.Dec.{T}
 use lib.ListN.{length, getD}
+use Rattle.number.specs.Tables.{every}
 
 pub and-left : (a b : Bool) → T (a && b) → T a
 and-left true b t = tt
@@ -13,11 +14,6 @@ and-left false b t = t
 pub and-right : (a b : Bool) → T (a && b) → T b
 and-right true b t = t
 and-right false b t = absurd t
-
--- the test passes at each entry
-abbrev pub every : {A : Type 0} → (A → Bool) → List A → Bool
-every f [] = true
-every f (x ∷ xs) = f x && every f xs
 
 pub every-at : {A : Type 0} (f : A → Bool) (xs : List A) → T (every f xs) → (k : ℕ) (d : A) → k < length xs → T (f (getD xs k d))
 every-at f [] t k d h = absurd (not-suc-le-zero h)

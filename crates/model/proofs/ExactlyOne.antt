@@ -1,0 +1,165 @@
+-- Exactly one trace: for a number of empty rows from one up and claims that fit, the defined trace is accepted with just these, and no other
+-- bytes are.
+use Prim.Native.Nat.{ℕ, suc, _*_, _/_, _^_, _<_, _≤_}
+use mathlib.Core.List.{List, [], _∷_}
+use mathlib.Core.Path.{_≡_, refl, sym, _∙_, ap, ap₂}
+use native.Mathlib.Omega.{arith}
+use lib.ListN.{length, getD, length-append, length-replicate, replicate}
+use Rattle.number.specs.Cells.{total}
+use Rattle.number.specs.Num.{AllBytes}
+use Rattle.model.specs.Columns.{Cells, emptyRow, rowBytes, rowAt, table, rowsOf, bytesOf}
+use Rattle.model.specs.Cycles.{Claim, Counts, claims, counts}
+use Rattle.model.specs.Promises.{AllHold, WellSized, Meets, Valid, Fits, countsOf, Accepted, emptyIn, claimsIn, Carries}
+use Rattle.model.specs.State.{Context, State, fresh}
+use Rattle.model.specs.Trace.{cycleOf, afterClaim, cyclesOf, trace, traceBytes}
+use Rattle.model.specs.Verdict.{accepted, maxRows, verdict}
+use Rattle.model.proofs.FitLaws.{trace-fits}
+use Rattle.model.proofs.JoinLaws.{length-cycle}
+use Rattle.model.proofs.ReadBack.{claims-trace, counts-trace}
+use Rattle.model.proofs.RowBytes.{AllFit, row-fits, length-bytes, bytes-are-bytes, row-back, rows-back, bytes-back}
+use Rattle.model.proofs.TableOf.{length-table}
+use Rattle.model.proofs.TraceMeets.{trace-holds}
+use Rattle.model.proofs.TraceUnique.{rows-are-trace}
+use Rattle.model.proofs.VerdictLaws.{all-hold-local, verdict-accepted}
+
+-- ---- existence
+
+-- each claim has a row of its own
+claims-le : (stamp : ℕ) (states : Context → State) (cs : List Claim) → length cs ≤ length (cyclesOf stamp states cs)
+unfolding cyclesOf
+claims-le stamp states [] = omega arith
+claims-le stamp states (c ∷ cs) =
+    let rest : List Cells = cyclesOf (suc stamp) (afterClaim states c) cs in
+    omega (
+      arith,
+      length-append (cycleOf stamp (states (c .context)) c) rest,
+      length-cycle stamp (states (c .context)) c,
+      claims-le (suc stamp) (afterClaim states c) cs,
+    )
+
+claims-lt : (n : ℕ) (cs : List Claim) → Fits n cs → length cs < 256 ^ 4
+unfolding trace
+claims-lt n cs f = omega (arith, claims-le 1 fresh cs, length-append (replicate n emptyRow) (cyclesOf 1 fresh cs), f .rows)
+
+module _ (n : ℕ) (cs : List Claim) (f : Fits n cs) where
+  abbrev rows : List Cells
+  rows = trace n cs
+
+  abbrev l : List ℕ
+  l = traceBytes n cs
+
+  fit : AllFit rows
+  fit = trace-fits n cs (f .valid) (claims-lt n cs f)
+
+  rows-read : rowsOf l ≡ rows
+  unfolding traceBytes
+  rows-read = rows-back rows fit
+
+  bytes-length : length l ≡ length rows * rowBytes
+  unfolding traceBytes
+  bytes-length = length-bytes rows
+
+  rows-length : length l / rowBytes ≡ length rows
+  unfolding total
+  rows-length = omega (arith, bytes-length)
+
+  some-rows : n ≤ length rows
+  unfolding trace
+  some-rows = omega (arith, length-append (replicate n emptyRow) (cyclesOf 1 fresh cs), length-replicate n emptyRow)
+
+  sized : WellSized l
+  unfolding total
+  sized = record { some = omega (arith, bytes-length, some-rows, f .some); whole = omega (arith, bytes-length); rows = rw rows-length (f .rows) }
+
+  holds-here : (i : ℕ) → i < length rows → AllHold (λ j. getD rows j emptyRow) (length rows) i
+  holds-here = trace-holds n cs (f .some) (f .valid)
+
+  row-read : (i : ℕ) → i < length rows → getD rows i emptyRow ≡ rowAt l i
+  unfolding traceBytes
+  row-read i h = sym (row-back rows i fit h)
+
+  holds-read : (i : ℕ) → i < length rows → AllHold (rowAt l) (length rows) i
+  holds-read i h =
+      all-hold-local (λ j. getD rows j emptyRow) (rowAt l) (length rows) (length rows) i (λ j k. row-read j (omega arith)) refl (holds-here i h)
+
+  counts-read : counts (rowsOf l) ≡ countsOf n cs
+  counts-read = ap counts rows-read ∙ counts-trace n cs
+
+  -- the trace is accepted, with the counts of its claims
+  pub trace-accepted : verdict l ≡ accepted (countsOf n cs)
+  trace-accepted = verdict-accepted l (countsOf n cs) .1 (record { sized = sized; holds = rw rows-length holds-read; counted = sym counts-read })
+
+  -- the claims that are read back are these
+  pub claims-read : claimsIn l ≡ cs
+  claims-read = ap claims rows-read ∙ claims-trace n cs
+
+  all-bytes : AllBytes l
+  unfolding traceBytes
+  all-bytes = bytes-are-bytes rows
+
+  -- it carries just these empty rows and claims
+  pub trace-carries : Carries n cs l
+  trace-carries = record {
+    accepted = record { bytes = all-bytes; verdict = trace-accepted ∙ ap accepted (sym counts-read) };
+    empty = ap (λ (c : Counts). c .empty) counts-read;
+    claims = claims-read;
+  }
+
+-- ---- uniqueness
+
+-- accepted bytes have an empty row and valid claims, and are the trace of their own
+pub record Own (l : List ℕ) : Type 0 where
+  pub fits : Fits (emptyIn l) (claimsIn l)
+  pub bytes : l ≡ traceBytes (emptyIn l) (claimsIn l)
+
+module _ (l : List ℕ) (a : Accepted l) where
+  abbrev count : ℕ
+  count = length l / rowBytes
+
+  meets : Meets l (counts (rowsOf l))
+  meets = verdict-accepted l (counts (rowsOf l)) .0 (a .verdict)
+
+  some : 0 < count
+  unfolding total
+  some = omega (arith, meets .sized .some, meets .sized .whole)
+
+  inside : (i : ℕ) → i < count → suc i * rowBytes ≤ length l
+  unfolding total
+  inside i h = omega arith
+
+  are : (more : ℕ) × (cs : List Claim) × (Valid cs) × (table count (rowAt l) ≡ trace (suc more) cs)
+  are = rows-are-trace (rowAt l) count some (meets .holds) (λ i h. row-fits l i (a .bytes) (inside i h))
+
+  rows-are : rowsOf l ≡ trace (suc (are .0)) (are .1)
+  unfolding rowsOf
+  rows-are = are .3
+
+  empty-are : emptyIn l ≡ suc (are .0)
+  empty-are = ap (λ (rows : List Cells). counts rows .empty) rows-are ∙ ap (λ (c : Counts). c .empty) (counts-trace (suc (are .0)) (are .1))
+
+  claims-are : claimsIn l ≡ are .1
+  claims-are = ap claims rows-are ∙ claims-trace (suc (are .0)) (are .1)
+
+  pub rows-own : rowsOf l ≡ trace (emptyIn l) (claimsIn l)
+  rows-own = rw (empty-are, claims-are) rows-are
+
+  fit-rows : length (rowsOf l) ≤ maxRows
+  unfolding rowsOf
+  fit-rows = rw length-table (meets .sized .rows)
+
+  pub accepted-own : Own l
+  unfolding traceBytes
+  accepted-own = record {
+    fits = record { some = rw empty-are (omega arith); valid = rw claims-are (are .2); rows = rw (← rows-own) fit-rows };
+    bytes = sym (bytes-back l (a .bytes) (meets .sized .whole)) ∙ ap bytesOf rows-own;
+  }
+
+-- ---- exactly one
+
+-- one and only one byte string is accepted with just these empty rows and claims
+pub exactly-one : (n : ℕ) (cs : List Claim) → Fits n cs → Carries n cs (traceBytes n cs) × ((l : List ℕ) → Carries n cs l → l ≡ traceBytes n cs)
+exactly-one n cs f = (trace-carries n cs f, λ l c. accepted-own l (c .accepted) .bytes ∙ ap₂ traceBytes (c .empty) (c .claims))
+
+-- accepted traces with equal claims after equally many empty rows are equal bytes
+pub equal-bytes : (l k : List ℕ) → Accepted l → Accepted k → emptyIn l ≡ emptyIn k → claimsIn l ≡ claimsIn k → l ≡ k
+equal-bytes l k a b e c = accepted-own l a .bytes ∙ ap₂ traceBytes e c ∙ sym (accepted-own k b .bytes)

@@ -1,0 +1,98 @@
+-- Where all earlier rows hold, the state that constraint 9 looks at is that of the latest earlier cycle with the context.
+use Prim.Native.Nat.{ℕ, zero, suc, _+_, _<_}
+use mathlib.Core.Bool.{Bool, true, false, false≢true, not, _&&_}
+use mathlib.Core.List.{List, [], _∷_, _++_, reverse, reverse-append}
+use mathlib.Core.Path.{_≡_, refl, sym, _∙_, ap}
+use native.Mathlib.Nat.{le-step, lt-suc-self}
+use native.Mathlib.Omega.{arith}
+use borrow.Author.Tests.{eqb-false}
+use lib.Dec.{eqb}
+use lib.ListN.{length, getD}
+use Rattle.model.specs.Columns.{Cells, table}
+use Rattle.model.specs.Constraints.{inUse, kept, k4, k8, constraint}
+use Rattle.model.specs.Cycles.{Cycle, Looked, starts, cyclesFrom, look, lastState}
+use Rattle.model.specs.Promises.{AllHold}
+use Rattle.model.specs.State.{Context, State, sameContext, contextOf, stateOf, put}
+use Rattle.model.specs.Tests.{pick}
+use Rattle.model.specs.Verdict.{rowBefore, passed, before}
+use Rattle.model.proofs.ReadBack.{cycles-join}
+use Rattle.model.proofs.StepLaws.{same-stamp}
+use Rattle.model.proofs.TableOf.{table-snoc}
+use Rattle.model.proofs.TestFacts.{implies-use, equal-are}
+
+-- ---- the latest cycle, with one row more
+
+pick-state : (t : Bool) (a b : Looked) → pick t a b .state ≡ pick t (a .state) (b .state)
+pick-state true a b = refl
+pick-state false a b = refl
+
+look-new : (t : Bool) (c : Cycle) (cs : List Cycle) (x : Context)
+    → look x (reverse (pick t (c ∷ []) []) ++ cs) .state ≡ pick (t && sameContext (contextOf (c .row)) x) (stateOf (c .row)) (look x cs .state)
+unfolding look
+look-new true c cs x = pick-state (sameContext (contextOf (c .row)) x) _ _
+look-new false c cs x = refl
+
+-- the row's state where it starts a cycle of the context
+last-snoc : (xs : List Cells) (y : Cells) (x : Context)
+    → lastState (xs ++ (y ∷ [])) x .state ≡ pick (starts y && sameContext (contextOf y) x) (stateOf y) (lastState xs x .state)
+unfolding lastState cyclesFrom
+last-snoc xs y x =
+    rw (cycles-join 0 xs (y ∷ []), reverse-append (cyclesFrom 0 xs) (cyclesFrom (0 + length xs) (y ∷ [])))
+    (look-new (starts y) (record { first = 0 + length xs; row = y }) (reverse (cyclesFrom 0 xs)) x)
+
+-- ---- the state before a row, with one row more
+
+passed-own : (states : Context → State) (y : Cells) (x : Context) → inUse y ≡ true
+    → sameContext (contextOf y) x ≡ true → passed states y x ≡ stateOf y
+unfolding passed put
+passed-own states y x u c = rw (u, c)
+
+pick-same : (t : Bool) (a b : State) → (t ≡ true → b ≡ a) → pick t a b ≡ b
+pick-same true a b f = sym (f refl)
+pick-same false a b f = refl
+
+module _ (r : ℕ → Cells) (n : ℕ) where
+  -- a row that repeats the row before finds the state that it leaves
+  before-repeated : (i : ℕ) → inUse (rowBefore r i) ≡ true → kept (r i) ≡ kept (rowBefore r i)
+      → (x : Context) → sameContext (contextOf (r i)) x ≡ true → before r i x ≡ stateOf (r i)
+  unfolding inUse before
+  before-repeated zero u e x c = absurd (false≢true u)
+  before-repeated (suc i) u e x c =
+      let context : contextOf (r (suc i)) ≡ contextOf (r i) = ap (λ (l : List ℕ). record { cn = getD l 0 0 }) e in
+      let state : stateOf (r (suc i)) ≡ stateOf (r i) = ap (λ (l : List ℕ). record { mem = getD l 4 0; cost = getD l 6 0 }) e in
+      passed-own (before r i) (r i) x u (ap (λ (y : Context). sameContext y x) (sym context) ∙ c) ∙ sym state
+
+  -- so does every row of a cycle but the first
+  before-inside : (i : ℕ) → AllHold r n i → inUse (r i) ≡ true → eqb (r i .ct) 0 ≡ false
+      → (x : Context) → sameContext (contextOf (r i)) x ≡ true → before r i x ≡ stateOf (r i)
+  unfolding constraint k4 k8 inUse
+  before-inside i h u z =
+      let b : Cells = rowBefore r i in
+      let stamp : r i .stamp ≡ b .stamp = same-stamp _ _ _ _ (eqb-false (r i .ct) 0 z) (h 4 (omega arith) (omega arith)) in
+      let keeps : k8 b (r i) ≡ true = implies-use (inUse (r i)) _ (h 8 (omega arith) (omega arith)) u in
+      before-repeated i (ap (λ (s : ℕ). not (eqb s 0)) (sym stamp) ∙ u) (equal-are (kept (r i)) (kept b) (implies-use _ _ keeps (ap not z)))
+
+  -- a row that holds changes a state only where it starts a cycle
+  passed-row : (i : ℕ) → AllHold r n i → (x : Context)
+      → passed (before r i) (r i) x ≡ pick (starts (r i) && sameContext (contextOf (r i)) x) (stateOf (r i)) (before r i x)
+  unfolding passed starts put
+  passed-row i h x = go (inUse (r i)) (eqb (r i .ct) 0) refl refl
+    where
+      go : (t u : Bool) → inUse (r i) ≡ t → eqb (r i .ct) 0 ≡ u
+          → pick t (put (before r i) (contextOf (r i)) (stateOf (r i))) (before r i) x
+          ≡ pick (t && u && sameContext (contextOf (r i)) x) (stateOf (r i)) (before r i x)
+      go true true e z = refl
+      go true false e z = pick-same (sameContext (contextOf (r i)) x) (stateOf (r i)) (before r i x) (before-inside i h e z x)
+      go false u e z = refl
+
+  -- ---- the two agree
+
+  latest-next : (i : ℕ) → AllHold r n i → (x : Context) → before r i x ≡ lastState (table i r) x .state
+      → before r (suc i) x ≡ lastState (table (suc i) r) x .state
+  unfolding before
+  latest-next i h x e = rw (table-snoc i r, last-snoc, ← e) (passed-row i h x)
+
+  pub latest-cycle : (i : ℕ) → ((j : ℕ) → j < i → AllHold r n j) → (x : Context) → before r i x ≡ lastState (table i r) x .state
+  unfolding before table lastState cyclesFrom look
+  latest-cycle zero h x = refl
+  latest-cycle (suc i) h x = latest-next i (h i (lt-suc-self i)) x (latest-cycle i (λ j l. h j (le-step l)) x)

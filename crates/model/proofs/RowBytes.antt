@@ -1,0 +1,122 @@
+-- Rows and their bytes determine each other: rows whose cells fit are read back from their bytes, and the bytes of whole rows are written back.
+use Prim.Native.Nat.{ℕ, zero, suc, _+_, _*_, _/_, _%_, _<_, _≤_}
+use mathlib.Core.List.{List, [], _∷_, _++_, append-assoc, append-nil}
+use mathlib.Core.Path.{_≡_, refl, sym, _∙_, ap}
+use native.Mathlib.Nat.{le-of-suc-le-suc, not-suc-le-zero, zero-mul}
+use native.Mathlib.Omega.{arith}
+use lib.ListN.{length, take, drop, getD, length-append, length-drop, take-append-drop}
+use lib.Seq.{take-add, take-all, split-at, take-at, drop-at, length-take-le}
+use Rattle.number.specs.Cells.{total, encode, decode, Fit}
+use Rattle.number.specs.Num.{be, AllBytes}
+use Rattle.number.proofs.CellLaws.{length-encode, encode-decode, decode-encode, decode-fit}
+use Rattle.number.proofs.NumLaws.{be-bytes}
+use Rattle.model.specs.Columns.{Cells, columns, cellsIn, widths, rowBytes, ofList, emptyRow, rowAt, table, rowsOf, bytesOf}
+use Rattle.model.proofs.TableOf.{table-path, table-snoc, table-of-list}
+
+-- ---- a row that is read
+
+-- its cells are those that stand in its bytes, and they fit
+pub cells-row : (l : List ℕ) (i : ℕ) → cellsIn columns (rowAt l i) ≡ decode widths l (i * rowBytes)
+unfolding rowAt decode
+cells-row l i = refl
+
+pub row-fits : (l : List ℕ) (i : ℕ) → AllBytes l → suc i * rowBytes ≤ length l → Fit widths (cellsIn columns (rowAt l i))
+row-fits l i b h = rw (cells-row l i) (decode-fit widths l (i * rowBytes) b (omega arith))
+
+-- ---- the bytes of rows
+
+pub length-bytes : (rows : List Cells) → length (bytesOf rows) ≡ length rows * rowBytes
+unfolding bytesOf
+length-bytes [] = omega arith
+length-bytes (x ∷ xs) = rw (length-append, length-encode, length-bytes xs) (omega arith)
+
+pub bytes-append : (xs ys : List Cells) → bytesOf (xs ++ ys) ≡ bytesOf xs ++ bytesOf ys
+unfolding bytesOf
+bytes-append [] ys = refl
+bytes-append (x ∷ xs) ys = rw (bytes-append xs ys, append-assoc)
+
+all-bytes-append : (l k : List ℕ) → AllBytes l → AllBytes k → AllBytes (l ++ k)
+all-bytes-append [] k a b i h = b i h
+all-bytes-append (x ∷ l) k a b zero h = a 0 (omega arith)
+all-bytes-append (x ∷ l) k a b (suc i) h = all-bytes-append l k (λ j m. a (suc j) (omega arith)) b i (le-of-suc-le-suc h)
+
+encode-bytes : (ws vs : List ℕ) → AllBytes (encode ws vs)
+unfolding encode
+encode-bytes [] vs = λ i h. absurd (not-suc-le-zero h)
+encode-bytes (w ∷ ws) [] = all-bytes-append (be w 0) (encode ws []) (be-bytes w 0) (encode-bytes ws [])
+encode-bytes (w ∷ ws) (v ∷ vs) = all-bytes-append (be w v) (encode ws vs) (be-bytes w v) (encode-bytes ws vs)
+
+pub bytes-are-bytes : (rows : List Cells) → AllBytes (bytesOf rows)
+unfolding bytesOf
+bytes-are-bytes [] = λ i h. absurd (not-suc-le-zero h)
+bytes-are-bytes (x ∷ xs) =
+    all-bytes-append (encode widths (cellsIn columns x)) (bytesOf xs) (encode-bytes widths (cellsIn columns x)) (bytes-are-bytes xs)
+
+-- ---- rows that were written are read back
+
+-- each cell of each row fits its column
+abbrev pub AllFit : List Cells → Type 0
+AllFit [] = Unit
+AllFit (x ∷ xs) = Fit widths (cellsIn columns x) × AllFit xs
+
+fit-at : (rows : List Cells) (i : ℕ) → AllFit rows → i < length rows → Fit widths (cellsIn columns (getD rows i emptyRow))
+fit-at [] i f h = absurd (not-suc-le-zero h)
+fit-at (x ∷ xs) zero f h = f .0
+fit-at (x ∷ xs) (suc i) f h = fit-at xs i (f .1) (le-of-suc-le-suc h)
+
+-- in the middle of other bytes
+row-at : (l k : List ℕ) (i : ℕ) (x : Cells) → length l ≡ i * rowBytes → Fit widths (cellsIn columns x)
+    → rowAt (l ++ (encode widths (cellsIn columns x) ++ k)) i ≡ x
+unfolding rowAt
+row-at l k i x e f = rw (← e) (ap ofList (decode-encode widths (cellsIn columns x) l k f))
+
+pub row-back : (rows : List Cells) (i : ℕ) → AllFit rows → i < length rows → rowAt (bytesOf rows) i ≡ getD rows i emptyRow
+unfolding bytesOf
+row-back rows i f h =
+    let x : Cells = getD rows i emptyRow in
+    let e = ap bytesOf (split-at rows i emptyRow h) ∙ bytes-append (take i rows) (x ∷ drop (suc i) rows) in
+    let n : length (bytesOf (take i rows)) ≡ i * rowBytes = rw (length-bytes, length-take-le i rows (omega arith)) in
+    rw e (row-at (bytesOf (take i rows)) (bytesOf (drop (suc i) rows)) i x n (fit-at rows i f h))
+
+pub rows-back : (rows : List Cells) → AllFit rows → rowsOf (bytesOf rows) ≡ rows
+unfolding rowsOf total
+rows-back rows f =
+    let n : length (bytesOf rows) / rowBytes ≡ length rows = omega (arith, length-bytes rows) in
+    rw n (table-path (length rows) (rowAt (bytesOf rows)) (λ i. getD rows i emptyRow) (λ i h. row-back rows i f h) ∙ table-of-list rows emptyRow)
+
+-- ---- bytes that were read as rows are written back
+
+bytes-next : (f : ℕ → Cells) (n : ℕ) → bytesOf (table (suc n) f) ≡ bytesOf (table n f) ++ encode widths (cellsIn columns (f n))
+unfolding bytesOf
+bytes-next f n = rw (table-snoc, bytes-append, append-nil)
+
+-- the first n rows
+bytes-first : (l : List ℕ) (n : ℕ) → AllBytes l → n * rowBytes ≤ length l → bytesOf (table n (rowAt l)) ≡ take (n * rowBytes) l
+bytes-first l zero b h = unfold bytesOf table in rw zero-mul
+bytes-first l (suc n) b h =
+    let e = encode-decode widths l (n * rowBytes) b (omega arith) in
+    let m : suc n * rowBytes ≡ n * rowBytes + rowBytes = omega arith in
+    rw (bytes-next (rowAt l) n, bytes-first l n b (omega arith), cells-row l n, e, m, take-add)
+
+pub bytes-back : (l : List ℕ) → AllBytes l → length l % rowBytes ≡ 0 → bytesOf (rowsOf l) ≡ l
+unfolding rowsOf total
+bytes-back l b h = bytes-first l (length l / rowBytes) b (omega arith) ∙ take-all (length l / rowBytes * rowBytes) l (omega arith)
+
+-- ---- a part of the rows is a part of the bytes
+
+bytes-split : (xs : List Cells) (p : ℕ) → bytesOf xs ≡ bytesOf (take p xs) ++ bytesOf (drop p xs)
+bytes-split xs p = ap bytesOf (sym (take-append-drop p xs)) ∙ bytes-append (take p xs) (drop p xs)
+
+length-first : (xs : List Cells) (p : ℕ) → p ≤ length xs → length (bytesOf (take p xs)) ≡ p * rowBytes
+length-first xs p h = rw (length-bytes, length-take-le p xs h)
+
+pub bytes-part : (xs : List Cells) (p m : ℕ) → p + m ≤ length xs
+    → take (m * rowBytes) (drop (p * rowBytes) (bytesOf xs)) ≡ bytesOf (take m (drop p xs))
+bytes-part xs p m h =
+    let ys : List Cells = drop p xs in
+    let rest : drop (p * rowBytes) (bytesOf xs) ≡ bytesOf ys =
+    ap (drop (p * rowBytes)) (bytes-split xs p) ∙ drop-at (bytesOf (take p xs)) (bytesOf ys) (p * rowBytes) (length-first xs p (omega arith)) in
+    let first : take (m * rowBytes) (bytesOf ys) ≡ bytesOf (take m ys) =
+    ap (take (m * rowBytes)) (bytes-split ys m)
+    ∙ take-at (bytesOf (take m ys)) (bytesOf (drop m ys)) (m * rowBytes) (length-first ys m (omega (arith, length-drop p xs))) in
+    ap (take (m * rowBytes)) rest ∙ first

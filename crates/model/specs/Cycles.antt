@@ -1,0 +1,115 @@
+-- What is read off a trace: its cycles, its claims and counts, the rows of an instruction, the last state of a context, a walker's step.
+use Prim.Native.Nat.{ℕ, zero, suc, _+_, _*_, _/_}
+use mathlib.Core.Bool.{Bool, not, _&&_}
+use mathlib.Core.List.{List, [], _∷_, map, reverse}
+use lib.Dec.{eqb, leb}
+use lib.ListN.{length, getD, take, drop}
+use Rattle.model.specs.Columns.{Cells, emptyRow, rowBytes, rowAt, rowsOf}
+use Rattle.model.specs.Constraints.{lastCt, inUse}
+use Rattle.model.specs.State.{Context, State, sameContext, contextOf, stateOf, start}
+use Rattle.model.specs.Tests.{pick}
+
+-- A cycle is the rows of one instruction: the number of its first row, and that row
+pub record Cycle : Type 0 where
+  pub first : ℕ
+  pub row : Cells
+
+-- how many rows it has
+abbrev pub rowsIn : Cycle → ℕ
+rowsIn c = suc (lastCt (c .row .ooob))
+
+-- a row with which a cycle starts
+unfoldable pub starts : Cells → Bool
+starts x = inUse x && eqb (x .ct) 0
+
+-- the cycles of rows, of which the first has the number i
+unfoldable pub cyclesFrom : ℕ → List Cells → List Cycle
+cyclesFrom i [] = []
+cyclesFrom i (x ∷ xs) = pick (starts x) (record { first = i; row = x } ∷ cyclesFrom (suc i) xs) (cyclesFrom (suc i) xs)
+
+abbrev pub cycles : List Cells → List Cycle
+cycles rows = cyclesFrom 0 rows
+
+-- A claim is a context number CN and two ends.
+pub record Claim : Type 0 where
+  pub context : Context
+  pub end1 : ℕ
+  pub end2 : ℕ
+
+abbrev pub claimOf : Cells → Claim
+claimOf x = record { context = contextOf x; end1 = x .end1; end2 = x .end2 }
+
+abbrev pub claims : List Cells → List Claim
+claims rows = map (λ (c : Cycle). claimOf (c .row)) (cycles rows)
+
+-- how many entries pass the test
+unfoldable pub count : {A : Type 0} → (A → Bool) → List A → ℕ
+count f [] = 0
+count f (x ∷ xs) = pick (f x) (suc (count f xs)) (count f xs)
+
+-- counts of instructions, out-of-bounds ones and empty rows
+pub record Counts : Type 0 where
+  pub instructions : ℕ
+  pub oob : ℕ
+  pub empty : ℕ
+
+abbrev pub isOob : Cycle → Bool
+isOob c = eqb (c .row .ooob) 1
+
+unfoldable pub counts : List Cells → Counts
+counts rows = record {
+  instructions = length (cycles rows);
+  oob = count isOob (cycles rows);
+  empty = count (λ x. not (inUse x)) rows;
+}
+
+-- what stands for a cycle where there is none
+abbrev pub noCycle : Cycle
+noCycle = record { first = 0; row = emptyRow }
+
+-- the cycle of instruction k (from 1)
+unfoldable pub instruction : List Cells → ℕ → Cycle
+instruction rows zero = noCycle
+instruction rows (suc k) = getD (cycles rows) k noCycle
+
+-- n rows of a byte string from row i on
+unfoldable pub part : List ℕ → (i n : ℕ) → List ℕ
+part l i n = take (n * rowBytes) (drop (i * rowBytes) l)
+
+-- the rows of instruction k (from 1) as a part of the trace itself, and its claim
+unfoldable pub instructionPart : List ℕ → ℕ → List ℕ
+instructionPart l k =
+    let c : Cycle = instruction (rowsOf l) k in
+    part l (c .first) (rowsIn c)
+
+unfoldable pub instructionClaim : List ℕ → ℕ → Claim
+instructionClaim l k = claimOf (instruction (rowsOf l) k .row)
+
+-- an answer to the last-state question: the state, and how many cycles were looked at
+pub record Looked : Type 0 where
+  pub state : State
+  pub cycles : ℕ
+
+-- through cycles in the order given, up to the first with that context: the found one's place (from 1), or all cycles if none (then state 0, 0)
+unfoldable pub look : Context → List Cycle → Looked
+look x [] = record { state = start; cycles = 0 }
+look x (c ∷ cs) =
+    let rest : Looked = look x cs in
+    pick (sameContext (contextOf (c .row)) x) (record { state = stateOf (c .row); cycles = 1 })
+    (record { state = rest .state; cycles = suc (rest .cycles) })
+
+-- from the last cycle back
+unfoldable pub lastState : List Cells → Context → Looked
+lastState rows x = look x (reverse (cycles rows))
+
+-- what a walker's step gives: a part of the trace, and the next row
+pub record Stepped : Type 0 where
+  pub part : List ℕ
+  pub next : ℕ
+
+-- A step on any walker gives 3 rows from the next row, 17 if that row's OOOB is 1, and moves past them; if so many whole rows don't remain, an
+-- empty part and no move.
+unfoldable pub step : List ℕ → ℕ → Stepped
+step l i =
+    let n : ℕ = suc (lastCt (rowAt l i .ooob)) in
+    pick (leb (i + n) (length l / rowBytes)) (record { part = part l i n; next = i + n }) (record { part = []; next = i })

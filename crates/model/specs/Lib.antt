@@ -1,0 +1,11 @@
+pub mod Tests
+pub mod Columns
+pub mod State
+pub mod Steps
+pub mod Constraints
+pub mod Cycles
+pub mod Verdict
+pub mod Trace
+pub mod Alone
+pub mod Promises
+pub mod Wrong

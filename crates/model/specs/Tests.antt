@@ -1,0 +1,31 @@
+-- The words in which the constraints are written: tests on whole numbers.
+use Prim.Native.Nat.{ℕ, _+_, _*_}
+use mathlib.Core.Bool.{Bool, true, false, not, _||_}
+use mathlib.Core.List.{List}
+use lib.Dec.{eqb}
+use Rattle.number.specs.Tables.{every}
+
+-- the first where the test passes, else the second
+abbrev pub pick : {A : Type 0} → Bool → A → A → A
+pick true a b = a
+pick false a b = b
+
+-- the second test has to pass where the first does
+abbrev pub implies : Bool → Bool → Bool
+implies a b = not a || b
+
+-- 1 for a test that passes, else 0
+abbrev pub bit : Bool → ℕ
+bit b = pick b 1 0
+
+-- all of the numbers are 0
+abbrev pub zeros : List ℕ → Bool
+zeros l = every (λ v. eqb v 0) l
+
+-- v is a - b. A difference below 0 equals no cell: the test is made by a sum.
+unfoldable pub isDifference : ℕ → ℕ → ℕ → Bool
+isDifference v a b = eqb (v + b) a
+
+-- "Sums up X into Y" means Y=X where CT=0, else Y = 256 times Y of the row before, plus X.
+unfoldable pub sumsUp : (ct before x y : ℕ) → Bool
+sumsUp ct before x y = eqb y (pick (eqb ct 0) x (256 * before + x))
