@@ -13,12 +13,13 @@ use Rattle.gas.specs.Gas.{words, cost, rangeEnd}
 use Rattle.gas.specs.Paper.{M, C-mem}
 use Rattle.gas.proofs.GasLaws.{words-max, cost-monotone}
 use Rattle.gas.proofs.PaperLaws.{words-paper, cost-paper}
-use Rattle.model.specs.Alone.{counted, reached, ofContext, paperWords, rowAfter, Alone, ByPaper}
+use Rattle.model.specs.Alone.{counted, reached, ownClaims, paperWords, rowAfter, Alone, ByPaper, SameCharge}
+use Rattle.model.specs.Columns.{Cells}
 use Rattle.model.specs.Cycles.{Claim}
 use Rattle.model.specs.State.{Context, State, sameContext, fresh, put}
 use Rattle.model.specs.Tests.{pick, bit}
 use Rattle.model.specs.Trace.{inBounds, top, reach, after, afterClaim, afterClaims}
-use Rattle.model.proofs.ReadBack.{first-row}
+use Rattle.model.proofs.ReadBack.{is-row}
 use Rattle.model.proofs.StateLaws.{Sound, AllSound, sound-after, all-sound-fresh, all-sound-after}
 
 -- ---- what claims reach
@@ -28,16 +29,16 @@ unfolding reached
 reached-append x [] ds = omega arith
 reached-append x (c ∷ cs) ds = omega (arith, reached-append x cs ds)
 
--- claims of other contexts do not matter
-pub reached-own : (x : Context) (cs : List Claim) → reached x cs ≡ reached x (ofContext x cs)
-unfolding reached ofContext counted
+-- only the in-bounds claims of the context matter
+pub reached-own : (x : Context) (cs : List Claim) → reached x cs ≡ reached x (ownClaims x cs)
+unfolding reached ownClaims
 reached-own x [] = refl
-reached-own x (c ∷ cs) = go (sameContext (c .context) x) refl (reached-own x cs)
+reached-own x (c ∷ cs) = go (counted x c) refl (reached-own x cs)
   where
-    go : (t : Bool) → sameContext (c .context) x ≡ t → reached x cs ≡ reached x (ofContext x cs)
-        → max (pick (counted x c) (top c) 0) (reached x cs) ≡ reached x (pick t (c ∷ ofContext x cs) (ofContext x cs))
-    go true e ih = ap (max (pick (counted x c) (top c) 0)) ih
-    go false e ih = rw e (zero-max (reached x cs) ∙ ih)
+    go : (t : Bool) → counted x c ≡ t → reached x cs ≡ reached x (ownClaims x cs)
+        → max (pick t (top c) 0) (reached x cs) ≡ reached x (pick t (c ∷ ownClaims x cs) (ownClaims x cs))
+    go true e ih = rw e (ap (max (top c)) ih)
+    go false e ih = zero-max (reached x cs) ∙ ih
 
 -- ---- the state that claims leave
 
@@ -103,6 +104,22 @@ after-with done c =
     paid (after s c) (reached (c .context) (done ++ (c ∷ []))) (sound-after s c (sound-claims done (c .context)))
     (mem-after s c ∙ ap (λ (n : ℕ). max n (pick (inBounds c) (top c) 0)) m ∙ sym (reached-with done c))
 
+-- the claim and the earlier in-bounds ones of its context determine mark, words and gas
+pub alone-same : (x y : Cells) (done earlier : List Claim) (c : Claim) → Alone x done c → Alone y earlier c
+    → ownClaims (c .context) done ≡ ownClaims (c .context) earlier → SameCharge x y
+alone-same x y done earlier c a b e =
+    let before : reached (c .context) done ≡ reached (c .context) earlier =
+    reached-own (c .context) done ∙ ap (reached (c .context)) e ∙ sym (reached-own (c .context) earlier) in
+    let next : reached (c .context) (done ++ (c ∷ [])) ≡ reached (c .context) (earlier ++ (c ∷ [])) =
+    reached-with done c ∙ ap (λ (m : ℕ). max m (pick (inBounds c) (top c) 0)) before ∙ sym (reached-with earlier c) in
+    let paid = ap (λ (m : ℕ). cost (words m)) next in
+    record {
+      mark = a .mark ∙ sym (b .mark);
+      memn = a .memn ∙ next ∙ sym (b .memn);
+      costn = a .costn ∙ paid ∙ sym (b .costn);
+      gas = omega (arith, a .gas, b .gas, paid, ap (λ (m : ℕ). cost (words m)) before);
+    }
+
 -- an in-bounds claim reaches its greater end
 pub in-reaches : (done : List Claim) (c : Claim) → inBounds c ≡ true
     → reached (c .context) (done ++ (c ∷ [])) ≡ max (reached (c .context) done) (top c)
@@ -134,7 +151,7 @@ module _ (stamp : ℕ) (done : List Claim) (c : Claim) (i : ℕ) where
   -- a row says what the claims alone say
   pub row-alone : Alone (rowAfter stamp done c i) done c
   row-alone =
-      let row = first-row stamp (afterClaims fresh done (c .context)) c i in
+      let row = is-row stamp (afterClaims fresh done (c .context)) c i in
       let next = row .state ∙ after-with done c in
       let before = ap (λ (t : State). t .cost) (after-reached done (c .context)) in
       let cost = ap (λ (t : State). t .cost) (after-with done c) in

@@ -16,13 +16,13 @@ use Rattle.model.specs.Constraints.{k1, k2, k3, k4, k5, k6, k7, k8, k9, 
 use Rattle.model.specs.Constraints.{k14, k15, k16, k17, k18, k19, k20, k21, k22, k23, k24, k25, k26}
 use Rattle.model.specs.Cycles.{Claim}
 use Rattle.model.specs.Promises.{ValidClaim}
-use Rattle.model.specs.State.{State}
+use Rattle.model.specs.State.{Context, State}
 use Rattle.model.specs.Steps.{stampMoves, ctMoves}
 use Rattle.model.specs.Tests.{pick, bit}
 use Rattle.model.specs.Trace.{inBounds, lastOf, top, inRow, outRow, rowOf}
 use Rattle.model.proofs.InMeets.{in10, in-row-meets}
 use Rattle.model.proofs.OutMeets.{out10, out-row-meets}
-use Rattle.model.proofs.ReadBack.{Says, first-row, last-of-row}
+use Rattle.model.proofs.ReadBack.{IsRow, is-row, last-of-row}
 use Rattle.model.proofs.RowTests.{Within, Beyond, used-met, within-met, beyond-met, stamp-stays, ct-next}
 use Rattle.model.proofs.StateLaws.{Sound}
 use Rattle.model.proofs.TestFacts.{implies-met, _&_, equal-self}
@@ -52,8 +52,8 @@ module _ (k : ℕ) (s : State) (c : Claim) (valid : ValidClaim c) where
   unfolding rowOf inRow outRow
   rows-keep i j = pick-kept (inBounds c) (inRow (leb (c .end2) (c .end1)) (ltb (s .mem) (top c)) (suc k) s c) (outRow (suc k) s c) i j refl refl
 
-  says : (i : ℕ) → Says (suc k) s c i (row i)
-  says i = first-row (suc k) s c i
+  says : (i : ℕ) → IsRow (suc k) s c i (row i)
+  says i = is-row (suc k) s c i
 
   same-ooob : (i j : ℕ) → row i .ooob ≡ row j .ooob
   same-ooob i j = says i .ooob ∙ sym (says j .ooob)
@@ -77,7 +77,7 @@ module _ (k : ℕ) (s : State) (c : Claim) (valid : ValidClaim c) where
 
   met7 : (i : ℕ) → k7 (row i) ≡ true
   unfolding k7
-  met7 i = ap not (ne-eqb (row i .cn) 0 (λ e. absurd (omega (arith, says i .cn, valid .some))))
+  met7 i = ap not (ne-eqb (row i .cn) 0 (λ e. absurd (omega (arith, ap (λ (x : Context). x .cn) (says i .context), valid .some))))
 
   ct-not-zero : (i : ℕ) → not (eqb (row i .ct) 0) ≡ true → i ≢ 0
   ct-not-zero i h e = eqb-false (row i .ct) 0 (not-true (eqb (row i .ct) 0) h) (says i .ct ∙ e)
@@ -167,7 +167,7 @@ module _ (k : ℕ) (s : State) (c : Claim) (sound : Sound s) (valid : ValidClaim
       & met26 k s c valid i l a b q h last f & refl
 
   ooob-by : (t : Bool) → inBounds c ≡ t → x .ooob ≡ bit (not t)
-  ooob-by t e = first-row (suc k) s c i .ooob ∙ ap (λ (u : Bool). bit (not u)) e
+  ooob-by t e = is-row (suc k) s c i .ooob ∙ ap (λ (u : Bool). bit (not u)) e
 
   meets-in : inBounds c ≡ true → Passes seen
   unfolding lastOf

@@ -15,7 +15,7 @@ use Rattle.number.proofs.SumLaws.{sum-lt, sums-prefix, sums-digit}
 use Rattle.model.specs.Columns.{Cells, columns, widths, cellsIn}
 use Rattle.model.specs.Constraints.{View, kept, equal, k8}
 use Rattle.model.specs.Cycles.{Claim, claimOf}
-use Rattle.model.specs.State.{State}
+use Rattle.model.specs.State.{State, stateOf}
 use Rattle.model.specs.Tests.{sumsUp}
 use Rattle.model.proofs.RowFacts.{Each, Narrow, narrow, of-used}
 use Rattle.model.proofs.TestFacts.{implies-use, equal-are, sums-first, sums-next}
@@ -35,12 +35,15 @@ pub record Rows (m o : ℕ) (v : ℕ → View) : Type 0 where
 abbrev pub stateIn : Cells → State
 stateIn x = record { mem = x .mem; cost = x .cost }
 
--- the claim and the state before are among the cells that a cycle keeps
+-- the claim and the states before and after are among the cells that a cycle keeps
 pub claim-kept : (x y : Cells) → kept x ≡ kept y → claimOf x ≡ claimOf y
 claim-kept x y e = ap {B = Claim} (λ (l : List ℕ). record { context = record { cn = getD l 0 0 }; end1 = getD l 1 0; end2 = getD l 2 0 }) e
 
 pub state-kept : (x y : Cells) → kept x ≡ kept y → stateIn x ≡ stateIn y
 state-kept x y e = ap {B = State} (λ (l : List ℕ). record { mem = getD l 3 0; cost = getD l 5 0 }) e
+
+pub left-kept : (x y : Cells) → kept x ≡ kept y → stateOf x ≡ stateOf y
+left-kept x y e = ap {B = State} (λ (l : List ℕ). record { mem = getD l 4 0; cost = getD l 6 0 }) e
 
 module _ (m o : ℕ) (v : ℕ → View) (rows : Rows m o v) where
   kept-next : (i : ℕ) → suc i ≤ m → kept (v (suc i) .this) ≡ kept (v i .this)

@@ -8,14 +8,14 @@ use lib.ListN.{length, getD, length-append, length-replicate, replicate}
 use Rattle.number.specs.Cells.{total}
 use Rattle.number.specs.Num.{AllBytes}
 use Rattle.model.specs.Columns.{Cells, emptyRow, rowBytes, rowAt, table, rowsOf, bytesOf}
-use Rattle.model.specs.Cycles.{Claim, Counts, claims, counts}
-use Rattle.model.specs.Promises.{AllHold, WellSized, Meets, Valid, Fits, countsOf, Accepted, emptyIn, claimsIn, Carries}
+use Rattle.model.specs.Cycles.{Claim, Counts, claims, emptyRows, counts}
+use Rattle.model.specs.Promises.{AllHold, WellSized, Meets, Valid, Fits, countsOf, Accepted, emptyIn, claimsIn, Carries, Own}
 use Rattle.model.specs.State.{Context, State, fresh}
 use Rattle.model.specs.Trace.{cycleOf, afterClaim, cyclesOf, trace, traceBytes}
 use Rattle.model.specs.Verdict.{accepted, maxRows, verdict}
 use Rattle.model.proofs.FitLaws.{trace-fits}
 use Rattle.model.proofs.JoinLaws.{length-cycle}
-use Rattle.model.proofs.ReadBack.{claims-trace, counts-trace}
+use Rattle.model.proofs.ReadBack.{claims-trace, empty-trace, counts-trace}
 use Rattle.model.proofs.RowBytes.{AllFit, row-fits, length-bytes, bytes-are-bytes, row-back, rows-back, bytes-back}
 use Rattle.model.proofs.TableOf.{length-table}
 use Rattle.model.proofs.TraceMeets.{trace-holds}
@@ -101,16 +101,11 @@ module _ (n : ℕ) (cs : List Claim) (f : Fits n cs) where
   pub trace-carries : Carries n cs l
   trace-carries = record {
     accepted = record { bytes = all-bytes; verdict = trace-accepted ∙ ap accepted (sym counts-read) };
-    empty = ap (λ (c : Counts). c .empty) counts-read;
+    empty = ap emptyRows rows-read ∙ empty-trace n cs;
     claims = claims-read;
   }
 
 -- ---- uniqueness
-
--- accepted bytes have an empty row and valid claims, and are the trace of their own
-pub record Own (l : List ℕ) : Type 0 where
-  pub fits : Fits (emptyIn l) (claimsIn l)
-  pub bytes : l ≡ traceBytes (emptyIn l) (claimsIn l)
 
 module _ (l : List ℕ) (a : Accepted l) where
   abbrev count : ℕ
@@ -135,7 +130,7 @@ module _ (l : List ℕ) (a : Accepted l) where
   rows-are = are .3
 
   empty-are : emptyIn l ≡ suc (are .0)
-  empty-are = ap (λ (rows : List Cells). counts rows .empty) rows-are ∙ ap (λ (c : Counts). c .empty) (counts-trace (suc (are .0)) (are .1))
+  empty-are = ap emptyRows rows-are ∙ empty-trace (suc (are .0)) (are .1)
 
   claims-are : claimsIn l ≡ are .1
   claims-are = ap claims rows-are ∙ claims-trace (suc (are .0)) (are .1)
@@ -147,12 +142,17 @@ module _ (l : List ℕ) (a : Accepted l) where
   unfolding rowsOf
   fit-rows = rw length-table (meets .sized .rows)
 
+  -- accepted bytes have an empty row and valid claims, and are the trace of their own
   pub accepted-own : Own l
   unfolding traceBytes
   accepted-own = record {
     fits = record { some = rw empty-are (omega arith); valid = rw claims-are (are .2); rows = rw (← rows-own) fit-rows };
     bytes = sym (bytes-back l (a .bytes) (meets .sized .whole)) ∙ ap bytesOf rows-own;
   }
+
+-- an answer "accepted", whatever counts it says, is that of an accepted trace
+pub accepted-by : (l : List ℕ) (c : Counts) → AllBytes l → verdict l ≡ accepted c → Accepted l
+accepted-by l c b e = record { bytes = b; verdict = e ∙ ap accepted (verdict-accepted l c .0 e .counted) }
 
 -- ---- exactly one
 

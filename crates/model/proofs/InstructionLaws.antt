@@ -1,23 +1,30 @@
 -- What an accepted trace says of each of its instructions: its claim, its rows, its mark, its words and gas; and what joins to it or is cut off it.
 use Prim.Native.Nat.{ℕ, zero, suc, _+_, _*_, _/_, _<_, _≤_}
+use mathlib.Core.Bool.{true, false}
 use mathlib.Core.List.{List, [], _∷_, _++_}
 use mathlib.Core.Logic.{_↔_, _⊎_}
 use mathlib.Core.Path.{_≡_, sym, _∙_, ap}
+use native.Mathlib.Nat.{add-zero}
 use native.Mathlib.Omega.{arith}
-use lib.ListN.{length, getD, take, drop, length-take, length-drop}
-use lib.Seq.{getD-take, getD-drop}
+use borrow.Author.Tests.{le-leb, lt-leb}
+use lib.Dec.{leb}
+use lib.ListN.{length, getD, take, drop, replicate, length-append, length-replicate, length-take, length-drop}
+use lib.Seq.{take-length, getD-take, getD-drop}
 use Rattle.number.specs.Whole.{bound}
-use Rattle.model.specs.Alone.{rowAfter, Alone, ByPaper}
+use Rattle.number.proofs.TestLaws.{both-intro}
+use Rattle.gas.specs.Gas.{words, cost}
+use Rattle.model.specs.Alone.{reached, ownClaims, rowAfter, Alone, ByPaper, SameCharge}
 use Rattle.model.specs.Columns.{Cells, emptyRow, rowBytes, rowAt, rowsOf, bytesOf}
 use Rattle.model.specs.Constraints.{lastCt}
-use Rattle.model.specs.Cycles.{Cycle, Claim, claimOf, rowsIn, instruction, part, instructionPart, instructionClaim}
+use Rattle.model.specs.Cycles.{Cycle, Claim, claimOf, rowsIn, cycles, instruction, isInstruction, part, instructionPart, instructionClaim, nextRow, lastState, step}
 use Rattle.model.specs.Promises.{Valid, Fits, Accepted, emptyIn, claimsIn, Carries}
-use Rattle.model.specs.State.{fresh}
-use Rattle.model.specs.Trace.{lastOf, cycleOf, afterClaims, trace, traceBytes}
-use Rattle.model.proofs.AloneLaws.{marks, row-alone, row-by-paper}
+use Rattle.model.specs.State.{Context, fresh}
+use Rattle.model.specs.Trace.{inBounds, lastOf, cycleOf, cyclesOf, afterClaims, trace, traceBytes}
+use Rattle.model.proofs.AloneLaws.{after-reached, alone-same, marks, row-alone, out-adds-nothing, row-by-paper}
 use Rattle.model.proofs.ExactlyOne.{rows-own, accepted-own, trace-carries}
 use Rattle.model.proofs.JoinLaws.{length-cycle, bytes-snoc, trace-cut, bytes-cut}
-use Rattle.model.proofs.ReadBack.{claim-of-row, last-of-row, instruction-trace, rows-of-instruction, cycle-end}
+use Rattle.model.proofs.LastState.{last-trace}
+use Rattle.model.proofs.ReadBack.{claim-of-row, last-of-row, instructions-trace, instruction-trace, rows-of-instruction, cycle-end}
 use Rattle.model.proofs.RowBytes.{length-bytes, bytes-part}
 use Rattle.model.proofs.TableOf.{length-table, getD-table}
 
@@ -82,16 +89,27 @@ module _ (l : List ℕ) (a : Accepted l) where
           length-cycle (suc k) (afterClaims fresh done (c .context)) c,
         )
 
+    is-there : isInstruction (rowsOf l) (suc k) ≡ true
+    unfolding isInstruction
+    is-there =
+        let m : length (cycles (rowsOf l)) ≡ length cs = ap (λ (rows : List Cells). length (cycles rows)) own-rows ∙ instructions-trace n cs in
+        both-intro (leb 1 (suc k)) (leb (suc k) (length (cycles (rowsOf l)))) (le-leb 1 (suc k) (omega arith)) (le-leb (suc k) (length (cycles (rowsOf l))) (omega arith))
+
     rows-in : rowsIn cycle ≡ suc (lastOf c)
     rows-in = ap suc (ap (λ (y : Cycle). lastCt (y .row .ooob)) cycle-is ∙ last-of-row (suc k) (afterClaims fresh done (c .context)) c 0)
 
     -- its rows are a part of the trace itself
+    part-there : part l (cycle .first) (rowsIn cycle) ≡ instructionPart l (suc k)
+    unfolding instructionPart
+    part-there = rw is-there
+
     pub part-is : instructionPart l (suc k) ≡ bytesOf (cycleOf (suc k) (afterClaims fresh done (c .context)) c)
-    unfolding instructionPart part traceBytes
+    unfolding part traceBytes
     part-is =
-        rw rows-in (ap (λ (y : Cycle). take (suc (lastOf c) * rowBytes) (drop (y .first * rowBytes) l)) cycle-is
-        ∙ ap (λ (m : List ℕ). take (suc (lastOf c) * rowBytes) (drop (length (trace n done) * rowBytes) m)) own-bytes
-        ∙ bytes-part (trace n cs) (length (trace n done)) (suc (lastOf c)) inside ∙ ap bytesOf rows-of)
+        let p : ℕ = length (trace n done) in
+        let m : ℕ = suc (lastOf c) in
+        sym part-there ∙ rw rows-in (ap (λ (y : Cycle). take (m * rowBytes) (drop (y .first * rowBytes) l)) cycle-is
+        ∙ ap (λ (b : List ℕ). take (m * rowBytes) (drop (p * rowBytes) b)) own-bytes ∙ bytes-part (trace n cs) p m inside ∙ ap bytesOf rows-of)
 
     row-of-list : (j : ℕ) → j < length (trace n cs) → rowAt l j ≡ getD (trace n cs) j emptyRow
     unfolding rowsOf
@@ -111,29 +129,94 @@ module _ (l : List ℕ) (a : Accepted l) where
         ap (λ (q : ℕ). rowAt l (q + i)) f ∙ row-of-list (p + i) (omega (arith, inside)) ∙ sym t
         ∙ ap (λ (rows : List Cells). getD rows i emptyRow) rows-of ∙ getD-table (suc (lastOf c)) (rowAfter (suc k) done c) i emptyRow (omega arith)
 
-    -- words and gas follow from its own claim and the earlier in-bounds ones of its context alone, and are the Yellow Paper's
-    pub alone : (i : ℕ) → i ≤ lastOf c → Alone (rowAt l (cycle .first + i)) done c
-    alone i m = rw (row-is i m) (row-alone (suc k) done c i)
+    module _ (i : ℕ) (m : i ≤ lastOf c) where
+      abbrev row : Cells
+      row = rowAt l (cycle .first + i)
 
-    pub by-paper : (i : ℕ) → i ≤ lastOf c → ByPaper (rowAt l (cycle .first + i)) done c
-    by-paper i m = rw (row-is i m) (row-by-paper (suc k) done c i)
+      -- words and gas follow from its own claim and the earlier in-bounds ones of its context alone
+      pub alone : Alone row done c
+      alone = rw (row-is i m) (row-alone (suc k) done c i)
 
-    -- OOOB is 1 exactly if an end is 2^24 or more
-    pub marked : (i : ℕ) → i ≤ lastOf c → (rowAt l (cycle .first + i) .ooob ≡ 1) ↔ ((bound ≤ c .end1) ⊎ (bound ≤ c .end2))
-    marked i m = rw (alone i m .mark) (marks c)
+      -- and are the Yellow Paper's
+      pub by-paper : ByPaper row done c
+      by-paper = rw (row-is i m) (row-by-paper (suc k) done c i)
 
-    -- the trace cut at the end of its cycle is the trace of the claims up to it
-    pub cut-is : take ((cycle .first + rowsIn cycle) * rowBytes) l ≡ traceBytes n (take (suc k) cs)
-    unfolding traceBytes
-    cut-is =
-        let e : length (traceBytes n (take (suc k) cs)) ≡ (cycle .first + rowsIn cycle) * rowBytes =
-        length-bytes (trace n (take (suc k) cs)) ∙ ap (λ (m : ℕ). m * rowBytes) (rw (← own-rows) at (cycle-end n k cs h)) in
-        rw (← e) (ap (take (length (traceBytes n (take (suc k) cs)))) own-bytes ∙ bytes-cut n (suc k) cs)
+      -- OOOB is 1 exactly if an end is 2^24 or more
+      pub marked : (row .ooob ≡ 1) ↔ ((bound ≤ c .end1) ⊎ (bound ≤ c .end2))
+      marked = rw (alone .mark) (marks c)
 
-    -- and so it is accepted, with just these claims
-    pub cut-carries : Carries n (take (suc k) cs) (take ((cycle .first + rowsIn cycle) * rowBytes) l)
-    cut-carries = rw cut-is (trace-carries n (take (suc k) cs) (fits-take n (suc k) cs (accepted-own l a .fits)))
+      -- an out-of-bounds instruction adds nothing and costs 0
+      pub out-is-free : inBounds c ≡ false → (row .memn ≡ reached (c .context) done) × (row .gas ≡ 0)
+      out-is-free e =
+          let free = out-adds-nothing (suc k) done c i e in
+          (alone .memn ∙ free .0, rw (row-is i m) (free .1))
 
-  -- one claim more: the trace followed by that claim's cycle
+  -- ---- from one cycle to the next
+
+  -- the next row after k instructions is as many rows on as their trace has
+  next-is : (k : ℕ) → k ≤ length cs → nextRow (rowsOf l) k ≡ length (trace n (take k cs))
+  unfolding nextRow trace cyclesOf
+  next-is zero h = sym (length-append (replicate n emptyRow) [] ∙ ap (λ (m : ℕ). m + 0) (length-replicate n emptyRow) ∙ add-zero n)
+  next-is (suc k) h = ap (λ (rows : List Cells). instruction rows (suc k) .first + rowsIn (instruction rows (suc k))) own-rows ∙ sym (cycle-end n k cs h)
+
+  rows-count : length l / rowBytes ≡ length (trace n cs)
+  unfolding rowsOf
+  rows-count = sym (length-table (length l / rowBytes) (rowAt l)) ∙ ap length own-rows
+
+  -- the step of a walker that stands there gives the rows of instruction suc k, and moves past them
+  pub step-is : (k : ℕ) (h : k < length cs) → step l (nextRow (rowsOf l) k) ≡ record { part = instructionPart l (suc k); next = nextRow (rowsOf l) (suc k) }
+  unfolding step nextRow
+  step-is k h =
+      let y : Cycle = cycle k h in
+      let first : nextRow (rowsOf l) k ≡ y .first = next-is k (omega arith) ∙ sym (ap (λ (y : Cycle). y .first) (cycle-is k h)) in
+      let row : rowAt l (y .first) ≡ y .row =
+      rw add-zero at (row-is k h 0 (omega arith)) ∙ sym (ap (λ (y : Cycle). y .row) (cycle-is k h)) in
+      let fits : leb (y .first + rowsIn y) (length l / rowBytes) ≡ true =
+      le-leb (y .first + rowsIn y) (length l / rowBytes) (omega (arith, inside k h, rows-in k h, rows-count, ap (λ (y : Cycle). y .first) (cycle-is k h))) in
+      rw (first, row, fits, part-there k h)
+
+  -- after the last instruction it gives an empty part and does not move
+  pub step-end : step l (nextRow (rowsOf l) (length cs)) ≡ record { part = []; next = nextRow (rowsOf l) (length cs) }
+  unfolding step
+  step-end =
+      let q : ℕ = nextRow (rowsOf l) (length cs) in
+      let last : q ≡ length l / rowBytes = next-is (length cs) (omega arith) ∙ ap (λ (ds : List Claim). length (trace n ds)) (take-length cs) ∙ sym rows-count in
+      let over : leb (q + suc (lastCt (rowAt l q .ooob))) (length l / rowBytes) ≡ false = lt-leb _ (length l / rowBytes) (omega arith) in
+      rw over
+
+  -- the trace cut there is the trace of the first k claims, and is accepted with just these
+  pub cut-is : (k : ℕ) → k ≤ length cs → take (nextRow (rowsOf l) k * rowBytes) l ≡ traceBytes n (take k cs)
+  unfolding traceBytes
+  cut-is k h =
+      let e : length (traceBytes n (take k cs)) ≡ nextRow (rowsOf l) k * rowBytes =
+      length-bytes (trace n (take k cs)) ∙ ap (λ (m : ℕ). m * rowBytes) (sym (next-is k h)) in
+      rw (← e) (ap (take (length (traceBytes n (take k cs)))) own-bytes ∙ bytes-cut n k cs)
+
+  pub cut-carries : (k : ℕ) → k ≤ length cs → Carries n (take k cs) (take (nextRow (rowsOf l) k * rowBytes) l)
+  cut-carries k h = rw (cut-is k h) (trace-carries n (take k cs) (fits-take n k cs (accepted-own l a .fits)))
+
+  -- one claim more: the trace followed by that claim's cycle, which is accepted with just these where they fit
   pub join-is : (c : Claim) → traceBytes n (cs ++ (c ∷ [])) ≡ l ++ bytesOf (cycleOf (suc (length cs)) (afterClaims fresh cs (c .context)) c)
-  join-is c = bytes-snoc n cs c ∙ ap (λ (m : List ℕ). m ++ bytesOf (cycleOf (suc (length cs)) (afterClaims fresh cs (c .context)) c)) (sym own-bytes)
+  join-is c =
+      bytes-snoc n cs c ∙ ap (λ (m : List ℕ). m ++ bytesOf (cycleOf (suc (length cs)) (afterClaims fresh cs (c .context)) c)) (sym own-bytes)
+
+  pub join-carries : (c : Claim) → Fits n (cs ++ (c ∷ []))
+      → Carries n (cs ++ (c ∷ [])) (l ++ bytesOf (cycleOf (suc (length cs)) (afterClaims fresh cs (c .context)) c))
+  join-carries c f = rw (← join-is c) (trace-carries n (cs ++ (c ∷ [])) f)
+
+  -- ---- the last state
+
+  -- the state of a context's last cycle is that of its in-bounds claims: what constraint 9 asks of a next instruction of that context
+  pub last-state-is : (x : Context) → lastState (rowsOf l) x .state ≡ record { mem = reached x cs; cost = cost (words (reached x cs)) }
+  last-state-is x = ap (λ (rows : List Cells). lastState rows x .state) own-rows ∙ last-trace n cs x ∙ after-reached cs x
+
+-- in any two accepted traces, instructions with one claim and the same earlier in-bounds claims of its context have the same mark, words and gas
+module _ (l m : List ℕ) (a : Accepted l) (b : Accepted m) (k j : ℕ) (h : k < length (claimsIn l)) (g : j < length (claimsIn m)) where
+  pub own-claims-suffice : instructionClaim l (suc k) ≡ instructionClaim m (suc j)
+      → ownClaims (instructionClaim l (suc k) .context) (take k (claimsIn l)) ≡ ownClaims (instructionClaim l (suc k) .context) (take j (claimsIn m))
+      → (i : ℕ) → i ≤ lastOf (instructionClaim l (suc k))
+      → SameCharge (rowAt l (instruction (rowsOf l) (suc k) .first + i)) (rowAt m (instruction (rowsOf m) (suc j) .first + i))
+  own-claims-suffice e o i q =
+      let c : Claim = instructionClaim l (suc k) in
+      let there : Alone (rowAt m (instruction (rowsOf m) (suc j) .first + i)) (take j (claimsIn m)) c = rw e (alone m b j g i (rw e at q)) in
+      alone-same _ _ (take k (claimsIn l)) (take j (claimsIn m)) c (alone l a k h i q) there o

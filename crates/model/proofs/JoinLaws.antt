@@ -1,20 +1,56 @@
 -- Traces are joined and cut at the ends of cycles: more claims add rows at the end, and what stands before these is the trace of the first claims.
-use Prim.Native.Nat.{ℕ, suc, _+_}
+use Prim.Native.Nat.{ℕ, suc, _+_, _*_, _<_}
+use mathlib.Core.Bool.{Bool, true, false, not}
 use mathlib.Core.List.{List, [], _∷_, _++_, append-assoc, append-nil}
-use mathlib.Core.Path.{_≡_, sym, _∙_, ap}
+use mathlib.Core.Path.{_≡_, refl, sym, _∙_, ap}
 use native.Mathlib.Nat.{add-zero, add-suc, suc-add, zero-add}
-use lib.ListN.{length, take, drop, take-append-drop}
+use native.Mathlib.Omega.{arith}
+use lib.ListN.{length, take, drop, length-append, length-replicate, take-append-drop}
 use lib.Seq.{take-append-seam}
 use Rattle.model.specs.Columns.{Cells, bytesOf}
-use Rattle.model.specs.Cycles.{Claim}
+use Rattle.model.specs.Constraints.{inLast, outLast}
+use Rattle.model.specs.Cycles.{Claim, count}
 use Rattle.model.specs.State.{Context, State, fresh}
-use Rattle.model.specs.Trace.{lastOf, rowOf, cycleOf, afterClaim, afterClaims, cyclesOf, trace, traceBytes}
+use Rattle.model.specs.Tests.{pick}
+use Rattle.model.specs.Trace.{inBounds, lastOf, rowOf, cycleOf, afterClaim, afterClaims, cyclesOf, trace, traceBytes}
+use Rattle.model.specs.Verdict.{maxRows}
 use Rattle.model.proofs.RowBytes.{bytes-append}
 use Rattle.model.proofs.TableOf.{length-table}
 
 pub length-cycle : (stamp : ℕ) (s : State) (c : Claim) → length (cycleOf stamp s c) ≡ suc (lastOf c)
 unfolding cycleOf
 length-cycle stamp s c = length-table (suc (lastOf c)) (rowOf stamp s c)
+
+-- claims in bounds and out of bounds
+abbrev within : List Claim → ℕ
+within cs = count inBounds cs
+
+abbrev beyond : List Claim → ℕ
+beyond cs = count (λ (c : Claim). not (inBounds c)) cs
+
+-- a claim has 3 rows if it is in bounds, else 17
+length-next : (t : Bool) (c : Claim) (m a b : ℕ) → inBounds c ≡ t → m ≡ suc inLast * a + suc outLast * b
+    → suc (lastOf c) + m ≡ suc inLast * pick t (suc a) a + suc outLast * pick (not t) (suc b) b
+unfolding lastOf
+length-next true c m a b e h = rw e (omega arith)
+length-next false c m a b e h = rw e (omega arith)
+
+length-cycles : (stamp : ℕ) (states : Context → State) (cs : List Claim)
+    → length (cyclesOf stamp states cs) ≡ suc inLast * within cs + suc outLast * beyond cs
+unfolding cyclesOf count
+length-cycles stamp states [] = refl
+length-cycles stamp states (c ∷ cs) =
+    rw (length-append, length-cycle) (length-next (inBounds c) c _ (within cs) (beyond cs) refl (length-cycles (suc stamp) (afterClaim states c) cs))
+
+pub rows-of-trace : (n : ℕ) (cs : List Claim)
+    → length (trace n cs) ≡ n + (suc inLast * count inBounds cs + suc outLast * count (λ (c : Claim). not (inBounds c)) cs)
+unfolding trace
+rows-of-trace n cs = rw (length-append, length-replicate, length-cycles 1 fresh cs)
+
+-- 21,845 in-bounds instructions and one empty row fill a trace, and one more does not fit
+pub full-trace : (cs : List Claim) → count (λ (c : Claim). not (inBounds c)) cs ≡ 0
+    → ((count inBounds cs ≡ 21845) → length (trace 1 cs) ≡ maxRows) × ((21845 < count inBounds cs) → maxRows < length (trace 1 cs))
+full-trace cs e = (λ h. omega (arith, rows-of-trace 1 cs), λ h. omega (arith, rows-of-trace 1 cs))
 
 -- the rows of more claims stand after those of the first, at the next stamp and at the states that these leave
 pub cycles-append : (stamp : ℕ) (states : Context → State) (cs ds : List Claim)

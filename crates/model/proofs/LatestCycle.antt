@@ -1,20 +1,22 @@
 -- Where all earlier rows hold, the state that constraint 9 looks at is that of the latest earlier cycle with the context.
 use Prim.Native.Nat.{ℕ, zero, suc, _+_, _<_}
 use mathlib.Core.Bool.{Bool, true, false, false≢true, not, _&&_}
-use mathlib.Core.List.{List, [], _∷_, _++_, reverse, reverse-append}
+use mathlib.Core.List.{List, [], _∷_, _++_, reverse, append-nil}
 use mathlib.Core.Path.{_≡_, refl, sym, _∙_, ap}
 use native.Mathlib.Nat.{le-step, lt-suc-self}
 use native.Mathlib.Omega.{arith}
 use borrow.Author.Tests.{eqb-false}
 use lib.Dec.{eqb}
-use lib.ListN.{length, getD}
+use lib.ListN.{length}
 use Rattle.model.specs.Columns.{Cells, table}
 use Rattle.model.specs.Constraints.{inUse, kept, k4, k8, constraint}
-use Rattle.model.specs.Cycles.{Cycle, Looked, starts, cyclesFrom, look, lastState}
+use Rattle.model.specs.Cycles.{Claim, starts, cyclesFrom, cycles, look, lastState}
 use Rattle.model.specs.Promises.{AllHold}
 use Rattle.model.specs.State.{Context, State, sameContext, contextOf, stateOf, put}
 use Rattle.model.specs.Tests.{pick}
 use Rattle.model.specs.Verdict.{rowBefore, passed, before}
+use Rattle.model.proofs.CycleRows.{claim-kept, left-kept}
+use Rattle.model.proofs.LastState.{look-snoc}
 use Rattle.model.proofs.ReadBack.{cycles-join}
 use Rattle.model.proofs.StepLaws.{same-stamp}
 use Rattle.model.proofs.TableOf.{table-snoc}
@@ -22,23 +24,16 @@ use Rattle.model.proofs.TestFacts.{implies-use, equal-are}
 
 -- ---- the latest cycle, with one row more
 
-pick-state : (t : Bool) (a b : Looked) → pick t a b .state ≡ pick t (a .state) (b .state)
-pick-state true a b = refl
-pick-state false a b = refl
-
-look-new : (t : Bool) (c : Cycle) (cs : List Cycle) (x : Context)
-    → look x (reverse (pick t (c ∷ []) []) ++ cs) .state ≡ pick (t && sameContext (contextOf (c .row)) x) (stateOf (c .row)) (look x cs .state)
-unfolding look
-look-new true c cs x = pick-state (sameContext (contextOf (c .row)) x) _ _
-look-new false c cs x = refl
-
 -- the row's state where it starts a cycle of the context
 last-snoc : (xs : List Cells) (y : Cells) (x : Context)
     → lastState (xs ++ (y ∷ [])) x .state ≡ pick (starts y && sameContext (contextOf y) x) (stateOf y) (lastState xs x .state)
 unfolding lastState cyclesFrom
-last-snoc xs y x =
-    rw (cycles-join 0 xs (y ∷ []), reverse-append (cyclesFrom 0 xs) (cyclesFrom (0 + length xs) (y ∷ [])))
-    (look-new (starts y) (record { first = 0 + length xs; row = y }) (reverse (cyclesFrom 0 xs)) x)
+last-snoc xs y x = rw (cycles-join 0 xs (y ∷ [])) (go (starts y))
+  where
+    go : (t : Bool) → look x (reverse (cycles xs ++ pick t (record { first = 0 + length xs; row = y } ∷ []) [])) .state
+        ≡ pick (t && sameContext (contextOf y) x) (stateOf y) (look x (reverse (cycles xs)) .state)
+    go true = look-snoc x (cycles xs) (record { first = 0 + length xs; row = y })
+    go false = rw append-nil
 
 -- ---- the state before a row, with one row more
 
@@ -58,8 +53,8 @@ module _ (r : ℕ → Cells) (n : ℕ) where
   unfolding inUse before
   before-repeated zero u e x c = absurd (false≢true u)
   before-repeated (suc i) u e x c =
-      let context : contextOf (r (suc i)) ≡ contextOf (r i) = ap (λ (l : List ℕ). record { cn = getD l 0 0 }) e in
-      let state : stateOf (r (suc i)) ≡ stateOf (r i) = ap (λ (l : List ℕ). record { mem = getD l 4 0; cost = getD l 6 0 }) e in
+      let context : contextOf (r (suc i)) ≡ contextOf (r i) = ap (λ (c : Claim). c .context) (claim-kept (r (suc i)) (r i) e) in
+      let state : stateOf (r (suc i)) ≡ stateOf (r i) = left-kept (r (suc i)) (r i) e in
       passed-own (before r i) (r i) x u (ap (λ (y : Context). sameContext y x) (sym context) ∙ c) ∙ sym state
 
   -- so does every row of a cycle but the first

@@ -18,10 +18,12 @@ pub mod RowBytes
 pub mod FitLaws
 pub mod JoinLaws
 pub mod ReadBack
+pub mod JudgeLaws
 pub mod VerdictLaws
 pub mod ExactlyOne
 pub mod AloneLaws
 pub mod LatestCycle
+pub mod LastState
 pub mod InstructionLaws
 pub mod WrongPrograms
 pub mod AdverseLaws

@@ -11,9 +11,9 @@ use lib.ListN.{length, getD, take, drop, replicate, length-append, length-replic
 use lib.Seq.{length-take-le, take-suc, split-at, take-at, drop-append-seam, getD-at}
 use Rattle.model.specs.Columns.{Cells, emptyRow, table}
 use Rattle.model.specs.Constraints.{inLast, outLast, lastCt, inUse}
-use Rattle.model.specs.Cycles.{Cycle, Claim, rowsIn, starts, cyclesFrom, cycles, claimOf, claims, count, isOob, counts, noCycle, instruction}
+use Rattle.model.specs.Cycles.{Cycle, Claim, rowsIn, starts, cyclesFrom, cycles, claimOf, claims, count, isOob, emptyRows, counts, noCycle, instruction}
 use Rattle.model.specs.Promises.{countsOf}
-use Rattle.model.specs.State.{Context, State, stateOf, fresh}
+use Rattle.model.specs.State.{Context, State, contextOf, stateOf, fresh}
 use Rattle.model.specs.Tests.{pick, bit}
 use Rattle.model.specs.Trace.{inBounds, lastOf, top, reach, inRow, outRow, rowOf, cycleOf, after, afterClaim, afterClaims, cyclesOf, trace}
 use Rattle.model.proofs.JoinLaws.{length-cycle, trace-append, trace-snoc}
@@ -27,10 +27,10 @@ suc-test k = ne-eqb (suc k) 0 (suc-ne-zero k)
 
 -- ---- a row
 
--- row x says that it is row i of the claim c at stamp k, that the state of the claim's context was s, and what that becomes
-pub record Says (k : ℕ) (s : State) (c : Claim) (i : ℕ) (x : Cells) : Type 0 where
+-- x is a row with CT i of the claim c at stamp k, where the state of the claim's context was s
+pub record IsRow (k : ℕ) (s : State) (c : Claim) (i : ℕ) (x : Cells) : Type 0 where
   pub stamp : x .stamp ≡ k
-  pub cn : x .cn ≡ c .context .cn
+  pub context : contextOf x ≡ c .context
   pub ooob : x .ooob ≡ bit (not (inBounds c))
   pub ct : x .ct ≡ i
   pub end1 : x .end1 ≡ c .end1
@@ -41,15 +41,14 @@ pub record Says (k : ℕ) (s : State) (c : Claim) (i : ℕ) (x : Cells) : Type 0
   pub gas : x .gas ≡ after s c .cost - s .cost
 
 row-by : (t : Bool) (k : ℕ) (s : State) (c : Claim) (i : ℕ) → inBounds c ≡ t
-    → Says k s c i (pick t (inRow (leb (c .end2) (c .end1)) (ltb (s .mem) (top c)) k s c i) (outRow k s c i))
+    → IsRow k s c i (pick t (inRow (leb (c .end2) (c .end1)) (ltb (s .mem) (top c)) k s c i) (outRow k s c i))
 unfolding inRow outRow after reach
 row-by true k s c i e = search e
 row-by false k s c i e = search (e, sub-self)
 
--- every row of a claim's cycle says so: its first row too, by which the cycle is read
-pub first-row : (k : ℕ) (s : State) (c : Claim) (i : ℕ) → Says k s c i (rowOf k s c i)
+pub is-row : (k : ℕ) (s : State) (c : Claim) (i : ℕ) → IsRow k s c i (rowOf k s c i)
 unfolding rowOf
-first-row k s c i = row-by (inBounds c) k s c i refl
+is-row k s c i = row-by (inBounds c) k s c i refl
 
 last-by : (t : Bool) → lastCt (bit (not t)) ≡ pick t inLast outLast
 unfolding lastCt
@@ -59,28 +58,28 @@ last-by false = refl
 -- the last CT by OOOB is the claim's
 pub last-of-row : (k : ℕ) (s : State) (c : Claim) (i : ℕ) → lastCt (rowOf k s c i .ooob) ≡ lastOf c
 unfolding lastOf
-last-of-row k s c i = ap lastCt (first-row k s c i .ooob) ∙ last-by (inBounds c)
+last-of-row k s c i = ap lastCt (is-row k s c i .ooob) ∙ last-by (inBounds c)
 
 pub claim-of-row : (k : ℕ) (s : State) (c : Claim) (i : ℕ) → claimOf (rowOf k s c i) ≡ c
 claim-of-row k s c i =
-    let r = first-row k s c i in
-    λ j. record { context = record { cn = r .cn j }; end1 = r .end1 j; end2 = r .end2 j }
+    let r = is-row k s c i in
+    λ j. record { context = r .context j; end1 = r .end1 j; end2 = r .end2 j }
 
 bit-test : (t : Bool) → eqb (bit t) 1 ≡ t
 bit-test true = refl
 bit-test false = refl
 
 oob-of-row : (k : ℕ) (s : State) (c : Claim) (i : ℕ) → eqb (rowOf k s c i .ooob) 1 ≡ not (inBounds c)
-oob-of-row k s c i = ap (λ v. eqb v 1) (first-row k s c i .ooob) ∙ bit-test (not (inBounds c))
+oob-of-row k s c i = ap (λ v. eqb v 1) (is-row k s c i .ooob) ∙ bit-test (not (inBounds c))
 
 -- at a stamp from 1 up each row is one of an instruction, and row 0 alone starts a cycle
 in-use : (k : ℕ) (s : State) (c : Claim) (i : ℕ) → inUse (rowOf (suc k) s c i) ≡ true
 unfolding inUse
-in-use k s c i = rw (first-row (suc k) s c i .stamp, suc-test k)
+in-use k s c i = rw (is-row (suc k) s c i .stamp, suc-test k)
 
 starts-first : (k : ℕ) (s : State) (c : Claim) (i : ℕ) → starts (rowOf (suc k) s c i) ≡ eqb i 0
 unfolding starts
-starts-first k s c i = rw (in-use k s c i, first-row (suc k) s c i .ct)
+starts-first k s c i = rw (in-use k s c i, is-row (suc k) s c i .ct)
 
 -- ---- cycles
 
@@ -125,6 +124,11 @@ pub cycles-of-trace : (n : ℕ) (cs : List Claim) → cycles (trace n cs) ≡ pl
 unfolding trace
 cycles-of-trace n cs = rw (cycles-join, cycles-empty 0 n, length-replicate, zero-add) (cycles-placed n 0 fresh cs)
 
+-- one claim more is one cycle more
+pub cycles-snoc : (n : ℕ) (cs : List Claim) (c : Claim)
+    → cycles (trace n (cs ++ (c ∷ []))) ≡ cycles (trace n cs) ++ (record { first = length (trace n cs); row = rowOf (suc (length cs)) (afterClaims fresh cs (c .context)) c 0 } ∷ [])
+cycles-snoc n cs c = rw (trace-snoc, cycles-join, zero-add, cycles-one)
+
 -- ---- claims
 
 claims-placed : (i k : ℕ) (states : Context → State) (cs : List Claim) → map (λ (c : Cycle). claimOf (c .row)) (placed i k states cs) ≡ cs
@@ -138,7 +142,7 @@ claims-trace n cs = rw (cycles-of-trace n cs) (claims-placed n 1 fresh cs)
 
 -- ---- counts
 
-instructions-trace : (n : ℕ) (cs : List Claim) → length (cycles (trace n cs)) ≡ length cs
+pub instructions-trace : (n : ℕ) (cs : List Claim) → length (cycles (trace n cs)) ≡ length cs
 instructions-trace n cs = sym (length-map (cycles (trace n cs)) (λ (c : Cycle). claimOf (c .row))) ∙ ap length (claims-trace n cs)
 
 oob-placed : (i k : ℕ) (states : Context → State) (cs : List Claim) → count isOob (placed i k states cs) ≡ count (λ c. not (inBounds c)) cs
@@ -176,8 +180,8 @@ unfolding cyclesOf count
 empty-cycles k states [] = refl
 empty-cycles k states (c ∷ cs) = rw (count-join, empty-cycle k (states (c .context)) c, empty-cycles (suc k) (afterClaim states c) cs)
 
-empty-trace : (n : ℕ) (cs : List Claim) → count isEmpty (trace n cs) ≡ n
-unfolding trace
+pub empty-trace : (n : ℕ) (cs : List Claim) → emptyRows (trace n cs) ≡ n
+unfolding trace emptyRows
 empty-trace n cs = rw (count-join, empty-rows n, empty-cycles 0 fresh cs, add-zero)
 
 pub counts-trace : (n : ℕ) (cs : List Claim) → counts (trace n cs) ≡ countsOf n cs
@@ -222,14 +226,11 @@ module _ (n k : ℕ) (cs : List Claim) (d : Claim) (h : k < length cs) where
       rw (trace-at .1, drop-append-seam)
       (take-at (cycleOf (suc k) state claim) (trace-at .0) (suc (lastOf claim)) (length-cycle (suc k) state claim))
 
--- the trace of the first k claims is as long as the rows before the next cycle, and the trace of one more as those up to its end
+-- the trace of the first claims is as long as the rows up to the end of the last one's cycle
 module _ (n k : ℕ) (cs : List Claim) (h : k < length cs) where
   -- what a list of claims gives outside of it
   abbrev outside : Claim
   outside = claimOf emptyRow
-
-  pub cycle-start : length (trace n (take k cs)) ≡ instruction (trace n cs) (suc k) .first
-  cycle-start = ap (λ (y : Cycle). y .first) (sym (instruction-trace n k cs outside h))
 
   pub cycle-end : length (trace n (take (suc k) cs)) ≡ instruction (trace n cs) (suc k) .first + rowsIn (instruction (trace n cs) (suc k))
   cycle-end = rw (instruction-trace n k cs outside h, last-of-row, take-suc cs k outside h, trace-snoc, length-append, length-cycle)

@@ -21,7 +21,7 @@ use Rattle.model.specs.Verdict.{rowBefore, before, view}
 use Rattle.model.proofs.BeforeLaws.{before-cycle, before-empties}
 use Rattle.model.proofs.CycleMeets.{Leads, Behind, Passes, row-meets}
 use Rattle.model.proofs.JoinLaws.{length-cycle}
-use Rattle.model.proofs.ReadBack.{first-row, last-of-row}
+use Rattle.model.proofs.ReadBack.{is-row, last-of-row}
 use Rattle.model.proofs.RowFacts.{all-hold, in-use}
 use Rattle.model.proofs.RowTests.{stamp-next, ct-starts}
 use Rattle.model.proofs.StateLaws.{AllSound, all-sound-fresh, all-sound-after}
@@ -66,14 +66,11 @@ module _ (r : ℕ → Cells) (n : ℕ) where
     unfolding cycleOf
     at i l = stands i (rw length-cycle (omega arith)) ∙ getD-table (suc (lastOf c)) row i emptyRow (omega arith)
 
-    context-is : (i : ℕ) → contextOf (row i) ≡ c .context
-    context-is i = λ j. record { cn = first-row (suc k) s c i .cn j }
-
     behind : (i : ℕ) → i ≤ lastOf c
         → Behind row (suc k) s i (rowBefore (rowBefore r) (suc p + i)) (rowBefore r (suc p + i)) (before r (suc p + i) (contextOf (row i)))
     behind i l = record {
       leads = λ e. rw (e, add-zero) leads;
-      state = λ e. rw (e, add-zero, b) (ap states (rw e at (context-is i)));
+      state = λ e. rw (e, add-zero, b) (ap states (rw e at (is-row (suc k) s c i .context)));
       one = λ j e. rw (e, add-suc) (at j (omega arith));
       two = λ j e. rw (e, add-suc, add-suc) (at j (omega arith));
     }
@@ -89,7 +86,7 @@ module _ (r : ℕ → Cells) (n : ℕ) where
 
     leads-next : Leads (r (suc p + lastOf c)) (suc (suc k))
     leads-next =
-        let f = first-row (suc k) s c (lastOf c) in
+        let f = is-row (suc k) s c (lastOf c) in
         rw (at (lastOf c) (omega arith)) (record {
           stamps = rw (f .stamp, f .ct, last-of-row (suc k) s c (lastOf c)) (stamp-next (suc k) (lastOf c) (lastOf c) (suc-ne-zero k) refl);
           cts = rw (f .stamp, f .ct) (ct-starts (suc k) (lastOf c) (suc (suc k)) (λ e. absurd (omega arith)));
@@ -97,9 +94,9 @@ module _ (r : ℕ → Cells) (n : ℕ) where
 
     before-next : before r (suc p + suc (lastOf c)) ≡ afterClaim states c
     before-next =
-        before-cycle r (suc p) (lastOf c) (c .context) (after s c) (λ i l. (let f = first-row (suc k) s c i in rw (at i l) (record {
+        before-cycle r (suc p) (lastOf c) (c .context) (after s c) (λ i l. (let f = is-row (suc k) s c i in rw (at i l) (record {
           used = in-use (row i) (λ e. suc-ne-zero k (sym (f .stamp) ∙ e));
-          context = context-is i;
+          context = f .context;
           state = f .state;
         })))
         ∙ ap (λ (states : Context → State). put states (c .context) (after s c)) b

@@ -25,7 +25,7 @@ use Rattle.model.proofs.BeforeLaws.{Shows, before-cycle, before-empty}
 use Rattle.model.proofs.CycleRows.{Rows, stateIn}
 use Rattle.model.proofs.InUnique.{in-claim, in-unique}
 use Rattle.model.proofs.OutUnique.{out-claim, out-unique}
-use Rattle.model.proofs.ReadBack.{first-row}
+use Rattle.model.proofs.ReadBack.{is-row}
 use Rattle.model.proofs.RowFacts.{Each, each, in-use, of-used}
 use Rattle.model.proofs.StepLaws.{Steps, Start, Run, At, run, steady, over-cycles, over-empty}
 use Rattle.model.proofs.TableOf.{length-table, getD-table, table-path, drop-table}
@@ -154,10 +154,10 @@ module _ (r : ℕ → Cells) (n : ℕ) (some : 0 < n) (holds : (i : ℕ) → i <
     shows : (i : ℕ) → i ≤ last (suc p) → Shows (contextOf x) (after (before r (suc p) (contextOf x)) (claimOf x)) (r (suc p + i))
     shows i h =
         let s : State = before r (suc p) (contextOf x) in
-        let f = first-row (x .stamp) s (claimOf x) i in
+        let f = is-row (x .stamp) s (claimOf x) i in
         rw (rows-of i h) (record {
           used = in-use (rowOf (x .stamp) s (claimOf x) i) (λ z. b .used (sym (f .stamp) ∙ z));
-          context = λ j. record { cn = f .cn j };
+          context = f .context;
           state = f .state;
         })
 

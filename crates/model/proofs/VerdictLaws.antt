@@ -1,74 +1,26 @@
 -- The verdict in words: what the answers of `brokenAt`, `judged` and `verdict` say about constraints and rows.
-use Prim.Native.Nat.{ℕ, zero, suc, _+_, _/_, _%_, _≤_, _<_}
-use mathlib.Core.Bool.{Bool, true, false, true≢false, not, _||_}
-use mathlib.Core.List.{List, [], _∷_}
+use Prim.Native.Nat.{ℕ, zero, suc, _/_, _%_, _≤_, _<_}
+use mathlib.Core.Bool.{Bool, true, false, not, _||_}
+use mathlib.Core.List.{List}
 use mathlib.Core.Logic.{_↔_, _≢_, _⊎_, inl, inr, ⊎-elim}
 use mathlib.Core.Path.{_≡_, refl, sym, _∙_, ap, ap₂, subst}
-use native.Mathlib.Nat.{eq-or-lt-of-le, le-of-suc-le-suc}
+use native.Mathlib.Nat.{le-of-suc-le-suc}
 use native.Mathlib.Omega.{arith}
 use borrow.Author.Tests.{ltb-true, ltb-false, eqb-true, eqb-false, not-true, not-false, lt-ltb, le-ltb, eq-eqb, ne-eqb}
 use lib.Dec.{eqb, ltb}
-use lib.ListN.{length, getD}
+use lib.ListN.{length}
 use Rattle.number.specs.Cells.{total}
 use Rattle.number.proofs.TestLaws.{either, either-left, either-right}
 use Rattle.model.specs.Columns.{Cells, rowBytes, rowAt, rowsOf}
-use Rattle.model.specs.Constraints.{constraints, constraint, firstFailed, firstBroken}
+use Rattle.model.specs.Constraints.{constraints, constraint, firstBroken}
 use Rattle.model.specs.Cycles.{Counts, counts}
 use Rattle.model.specs.Promises.{Holds, AllHold, FirstBroken, WellSized, Meets}
 use Rattle.model.specs.State.{contextOf}
 use Rattle.model.specs.Tests.{pick}
-use Rattle.model.specs.Verdict.{rowBefore, passed, before, view, brokenAt, Judgement, meet, break, andRow, judged}
+use Rattle.model.specs.Verdict.{rowBefore, passed, before, view, brokenAt, Judgement, meet, break, judged}
 use Rattle.model.specs.Verdict.{Verdict, accepted, broken, refused, maxRows, badLength, tooManyRows, verdictBy, verdict}
+use Rattle.model.proofs.JudgeLaws.{FirstFails, zero-pass, pass-zero, some-fails, fails-some, fails-in, judged-zero, Stops, judged-stops}
 use Rattle.model.proofs.RowFacts.{each, all-hold}
-
--- ---- the first test of a list that fails
-
--- it stands at place m
-record FirstFails (ts : List Bool) (m : ℕ) : Type 0 where
-  fails : getD ts m true ≡ false
-  lower : (j : ℕ) → j < m → getD ts j true ≡ true
-
-zero-pass : (k : ℕ) (ts : List Bool) → firstFailed (suc k) ts ≡ 0 → (j : ℕ) → getD ts j true ≡ true
-unfolding firstFailed
-zero-pass k [] e j = refl
-zero-pass k (true ∷ ts) e zero = refl
-zero-pass k (true ∷ ts) e (suc j) = zero-pass (suc k) ts e j
-zero-pass k (false ∷ ts) e j = cc
-
-pass-zero : (k : ℕ) (ts : List Bool) → ((j : ℕ) → j < length ts → getD ts j true ≡ true) → firstFailed k ts ≡ 0
-unfolding firstFailed
-pass-zero k [] p = refl
-pass-zero k (true ∷ ts) p = pass-zero (suc k) ts (λ j h. p (suc j) (omega arith))
-pass-zero k (false ∷ ts) p = cc (p 0 (omega arith))
-
-first-cons : (ts : List Bool) (m : ℕ) → FirstFails ts m → FirstFails (true ∷ ts) (suc m)
-first-cons ts m f = record { fails = f .fails; lower = lower }
-  where
-    lower : (j : ℕ) → j < suc m → getD (true ∷ ts) j true ≡ true
-    lower zero h = refl
-    lower (suc j) h = f .lower j (le-of-suc-le-suc h)
-
-some-fails : (k v : ℕ) (ts : List Bool) → firstFailed k ts ≡ v → 1 ≤ v → (m : ℕ) × (v ≡ k + m) × FirstFails ts m
-unfolding firstFailed
-some-fails k v [] e h = absurd (omega arith)
-some-fails k v (true ∷ ts) e h =
-    let (m, q, f) = some-fails (suc k) v ts e h in
-    (suc m, omega arith, first-cons ts m f)
-some-fails k v (false ∷ ts) e h = (0, omega arith, record { fails = refl; lower = λ j l. absurd (omega arith) })
-
-fails-some : (k m : ℕ) (ts : List Bool) → FirstFails ts m → firstFailed k ts ≡ k + m
-unfolding firstFailed
-fails-some k m [] f = cc (f .fails)
-fails-some k zero (true ∷ ts) f = cc (f .fails)
-fails-some k (suc m) (true ∷ ts) f =
-    omega (arith, fails-some (suc k) m ts (record { fails = f .fails; lower = λ j h. f .lower (suc j) (omega arith) }))
-fails-some k zero (false ∷ ts) f = omega arith
-fails-some k (suc m) (false ∷ ts) f = cc (f .lower 0 (omega arith))
-
-fails-in : (m : ℕ) (ts : List Bool) → getD ts m true ≡ false → m < length ts
-fails-in m [] e = absurd (true≢false e)
-fails-in zero (t ∷ ts) e = omega arith
-fails-in (suc m) (t ∷ ts) e = omega (arith, fails-in m ts e)
 
 -- ---- one row
 
@@ -93,68 +45,11 @@ module _ (r : ℕ → Cells) (n i : ℕ) where
   unfolding brokenAt firstBroken
   first-broken m f = omega (arith, fails-some 1 m tests f)
 
--- ---- rows
-
-and-meet : (d : Judgement) (i k : ℕ) → andRow d i k ≡ meet → (d ≡ meet) × (k ≡ 0)
-and-meet meet i zero e = (refl, refl)
-and-meet meet i (suc k) e = (refl, cc)
-and-meet (break j m) i k e = (e, cc)
-
 -- the rows below i meet the constraints exactly if all hold at each of them
-pub judged-meet : (r : ℕ → Cells) (n i : ℕ) → (judged r n i ≡ meet) ↔ ((j : ℕ) → j < i → AllHold r n j)
-unfolding judged
-judged-meet r n i = (there i, back i)
-  where
-    there : (m : ℕ) → judged r n m ≡ meet → (j : ℕ) → j < m → AllHold r n j
-    there zero e j h = absurd (omega arith)
-    there (suc m) e j h =
-        let (d, z) = and-meet (judged r n m) m (brokenAt r n m) e in
-        ⊎-elim (λ q. subst (AllHold r n) (sym q) (broken-zero r n m .0 z)) (there m d j) (eq-or-lt-of-le (le-of-suc-le-suc h))
-
-    back : (m : ℕ) → ((j : ℕ) → j < m → AllHold r n j) → judged r n m ≡ meet
-    back zero a = refl
-    back (suc m) a = rw (back m (λ j h. a j (omega arith)), broken-zero r n m .1 (a m (omega arith)))
-
-meet≢break : (i k : ℕ) → meet ≢ break i k
-meet≢break i k e =
-    let z : _≡_ {A = ℕ} 0 1 = cc in
-    omega arith
-
-and-break : (d : Judgement) (j b i k : ℕ) → andRow d j b ≡ break i k → (d ≡ break i k) ⊎ ((d ≡ meet) × (j ≡ i) × (b ≡ k) × (1 ≤ k))
-and-break meet j zero i k e = absurd (meet≢break i k e)
-and-break meet j (suc b) i k e =
-    let q : suc b ≡ k = cc in
-    inr (refl, cc, q, omega arith)
-and-break (break l m) j b i k e = inl e
-
-and-some : (i k : ℕ) → 1 ≤ k → andRow meet i k ≡ break i k
-and-some i zero h = absurd (omega arith)
-and-some i (suc k) h = refl
-
--- the rows below row i meet the constraints, and k is the first that it breaks
-record Stops (r : ℕ → Cells) (n i k : ℕ) : Type 0 where
-  from : 1 ≤ k
-  number : brokenAt r n i ≡ k
-  earlier : judged r n i ≡ meet
-
-judged-stops : (r : ℕ → Cells) (n m i k : ℕ) → (judged r n m ≡ break i k) ↔ ((i < m) × Stops r n i k)
-unfolding judged
-judged-stops r n m i k = (there m, back m)
-  where
-    there : (m : ℕ) → judged r n m ≡ break i k → (i < m) × Stops r n i k
-    there zero e = absurd (meet≢break i k e)
-    there (suc m) e =
-        ⊎-elim
-        (λ d.
-        let (h, s) = there m d in
-        (omega arith, s))
-        (λ (d, p, q, h). (omega arith, record { from = h; number = rw (← p) q; earlier = rw (← p) d }))
-        (and-break (judged r n m) m (brokenAt r n m) i k e)
-
-    back : (m : ℕ) → (i < m) × Stops r n i k → judged r n m ≡ break i k
-    back zero (h, s) = absurd (omega arith)
-    back (suc m) (h, s) =
-        ⊎-elim (λ q. rw (← q, s .earlier, s .number, and-some i k (s .from))) (λ l. rw (back m (l, s))) (eq-or-lt-of-le (le-of-suc-le-suc h))
+pub judged-meet : (r : ℕ → Cells) (n i : ℕ) → (judged (brokenAt r n) i ≡ meet) ↔ ((j : ℕ) → j < i → AllHold r n j)
+judged-meet r n i =
+    let (there, back) = judged-zero (brokenAt r n) i in
+    (λ e j h. broken-zero r n j .0 (there e j h), λ a. back (λ j h. broken-zero r n j .1 (a j h)))
 
 -- the judgement of all rows names the first broken constraint of the first row that breaks one
 module _ (r : ℕ → Cells) (n i : ℕ) where
@@ -163,7 +58,7 @@ module _ (r : ℕ → Cells) (n i : ℕ) where
   lower-holds m f zero a b = refl
   lower-holds m f (suc k) a b = f .lower k (le-of-suc-le-suc b)
 
-  stops-first : (k : ℕ) → i < n → Stops r n i k → FirstBroken r n i k
+  stops-first : (k : ℕ) → i < n → Stops (brokenAt r n) i k → FirstBroken r n i k
   unfolding constraint
   stops-first zero h s = absurd (omega (arith, s .from))
   stops-first (suc m) h s =
@@ -177,7 +72,7 @@ module _ (r : ℕ → Cells) (n i : ℕ) where
         earlier = judged-meet r n i .0 (s .earlier);
       }
 
-  first-stops : (k : ℕ) → FirstBroken r n i k → Stops r n i k
+  first-stops : (k : ℕ) → FirstBroken r n i k → Stops (brokenAt r n) i k
   unfolding constraint
   first-stops zero b = absurd (omega (arith, b .from))
   first-stops (suc m) b = record {
@@ -186,9 +81,9 @@ module _ (r : ℕ → Cells) (n i : ℕ) where
     earlier = judged-meet r n i .1 (b .earlier);
   }
 
-  pub judged-break : (k : ℕ) → (judged r n n ≡ break i k) ↔ FirstBroken r n i k
+  pub judged-break : (k : ℕ) → (judged (brokenAt r n) n ≡ break i k) ↔ FirstBroken r n i k
   judged-break k =
-      let (there, back) = judged-stops r n n i k in
+      let (there, back) = judged-stops (brokenAt r n) n i k in
       (λ e. stops-first k (there e .0) (there e .1), λ b. back (b .row, first-stops k b))
 
 -- ---- what a row's number depends on: the rows up to it, and whether it is the last
@@ -260,28 +155,28 @@ module _ (l : List ℕ) where
           (omega (arith, eqb-false (length l) 0 z), eqb-true rest 0 (not-false (eqb rest 0) p))
 
   -- what each verdict says of the bytes
-  abbrev Says : Verdict → Type 0
-  Says (accepted c) = Meets l c
-  Says (broken i k) = WellSized l × FirstBroken (rowAt l) rows i k
-  Says (refused m) = ((m ≡ badLength) × ((length l ≡ 0) ⊎ (rest ≢ 0))) ⊎ ((m ≡ tooManyRows) × (rest ≡ 0) × (maxRows < rows))
+  abbrev Means : Verdict → Type 0
+  Means (accepted c) = Meets l c
+  Means (broken i k) = WellSized l × FirstBroken (rowAt l) rows i k
+  Means (refused m) = ((m ≡ badLength) × ((length l ≡ 0) ⊎ (rest ≢ 0))) ⊎ ((m ≡ tooManyRows) × (rest ≡ 0) × (maxRows < rows))
 
-  verdict-says : Says (verdict l)
+  verdict-says : Means (verdict l)
   unfolding verdict
-  verdict-says = go unfit refl (ltb maxRows rows) refl (judged (rowAt l) rows rows) refl
+  verdict-says = go unfit refl (ltb maxRows rows) refl (judged (brokenAt (rowAt l) rows) rows) refl
     where
       sized : unfit ≡ false → ltb maxRows rows ≡ false → WellSized l
       sized p q =
           let (some, whole) = unfit-false .0 p in
           record { some = some; whole = whole; rows = ltb-false maxRows rows q }
 
-      go : (s : Bool) → unfit ≡ s → (t : Bool) → ltb maxRows rows ≡ t → (j : Judgement) → judged (rowAt l) rows rows ≡ j
-          → Says (pick s (refused badLength) (pick t (refused tooManyRows) (verdictBy j (counts (rowsOf l)))))
+      go : (s : Bool) → unfit ≡ s → (t : Bool) → ltb maxRows rows ≡ t → (j : Judgement) → judged (brokenAt (rowAt l) rows) rows ≡ j
+          → Means (pick s (refused badLength) (pick t (refused tooManyRows) (verdictBy j (counts (rowsOf l)))))
       go true p t q j e = inl (refl, unfit-true .0 p)
       go false p true q j e = inr (refl, unfit-false .0 p .1, ltb-true maxRows rows q)
       go false p false q meet e = record { sized = sized p q; holds = judged-meet (rowAt l) rows rows .0 e; counted = refl }
       go false p false q (break i k) e = (sized p q, judged-break (rowAt l) rows i k .0 e)
 
-  sized-verdict : WellSized l → verdict l ≡ verdictBy (judged (rowAt l) rows rows) (counts (rowsOf l))
+  sized-verdict : WellSized l → verdict l ≡ verdictBy (judged (brokenAt (rowAt l) rows) rows) (counts (rowsOf l))
   unfolding verdict
   sized-verdict w = rw (unfit-false .1 (w .some, w .whole), le-ltb maxRows rows (w .rows))
 
@@ -289,15 +184,15 @@ module _ (l : List ℕ) where
   unfolding total
   long-some h = omega arith
 
-  says-verdict : (v : Verdict) → Says v → verdict l ≡ v
+  says-verdict : (v : Verdict) → Means v → verdict l ≡ v
   unfolding verdict
   says-verdict (accepted c) m = rw (sized-verdict (m .sized), judged-meet (rowAt l) rows rows .1 (m .holds), m .counted)
   says-verdict (broken i k) (w, f) = rw (sized-verdict w, judged-break (rowAt l) rows i k .1 f)
   says-verdict (refused m) (inl (e, u)) = rw (e, unfit-true .1 u)
   says-verdict (refused m) (inr (e, q, h)) = rw (e, unfit-false .1 (long-some h, q), lt-ltb maxRows rows h)
 
-  verdict-is : (v : Verdict) → (verdict l ≡ v) ↔ Says v
-  verdict-is v = (λ e. subst Says e verdict-says, says-verdict v)
+  verdict-is : (v : Verdict) → (verdict l ≡ v) ↔ Means v
+  verdict-is v = (λ e. subst Means e verdict-says, says-verdict v)
 
   pub verdict-accepted : (c : Counts) → (verdict l ≡ accepted c) ↔ Meets l c
   verdict-accepted c = verdict-is (accepted c)

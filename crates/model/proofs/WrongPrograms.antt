@@ -12,7 +12,7 @@ use Rattle.number.specs.Tables.{every}
 use Rattle.number.proofs.TableLaws.{every-at}
 use Rattle.model.specs.Columns.{rowAt, rowsOf, table, bytesOf}
 use Rattle.model.specs.Constraints.{firstBroken, firstFailed, inUse, k1, k2, k3, k4, k5, k6, k26}
-use Rattle.model.specs.Cycles.{Claim, Counts, counts, cyclesFrom, count, starts}
+use Rattle.model.specs.Cycles.{Claim, Counts, counts, emptyRows, cyclesFrom, count, starts}
 use Rattle.model.specs.Promises.{ValidClaim, Fits, WellSized}
 use Rattle.model.specs.Steps.{ctMoves}
 use Rattle.model.specs.Trace.{inBounds, lastOf, inRow, rowOf, cycleOf, cyclesOf, trace, traceBytes}
@@ -37,7 +37,7 @@ oneEmpty = record { instructions = 0; oob = 0; empty = 1 }
 
 accepted-row : verdict (row 0) ≡ accepted oneEmpty
 unfolding verdict judged brokenAt firstBroken firstFailed inUse k1 k2 k3 k4 k5 k6 k26 ctMoves
-    rowAt decode num total rowsOf table counts cyclesFrom count starts
+    rowAt decode num total rowsOf table counts emptyRows cyclesFrom count starts
 accepted-row = refl
 
 -- constraint 2: row 0 has STAMP 0

@@ -10,7 +10,7 @@ use Rattle.model.specs.Columns.{Cells, columns, cellsIn, ofList, emptyRo
 use Rattle.model.specs.Cycles.{Claim}
 use Rattle.model.specs.Promises.{Holds}
 use Rattle.model.specs.Trace.{trace}
-use Rattle.model.specs.Verdict.{Judgement, meet, break, judged}
+use Rattle.model.specs.Verdict.{brokenAt, Judgement, meet, break, judged}
 
 -- ---- changes in rows
 
@@ -80,7 +80,7 @@ abbrev pub rowIn : List Cells → ℕ → Cells
 rowIn xs i = getD xs i emptyRow
 
 abbrev pub judgedRows : List Cells → Judgement
-judgedRows xs = judged (rowIn xs) (length xs) (length xs)
+judgedRows xs = judged (brokenAt (rowIn xs) (length xs)) (length xs)
 
 -- the rows break constraint k and no other: without it they would pass
 pub record BreaksOnly (k : ℕ) (xs : List Cells) : Type 0 where

@@ -20,10 +20,10 @@ unfoldable pub reached : Context → List Claim → ℕ
 reached x [] = 0
 reached x (c ∷ cs) = max (pick (counted x c) (top c) 0) (reached x cs)
 
--- the claims of one context, in their order
-unfoldable pub ofContext : Context → List Claim → List Claim
-ofContext x [] = []
-ofContext x (c ∷ cs) = pick (sameContext (c .context) x) (c ∷ ofContext x cs) (ofContext x cs)
+-- the in-bounds claims of one context, in their order
+unfoldable pub ownClaims : Context → List Claim → List Claim
+ownClaims x [] = []
+ownClaims x (c ∷ cs) = pick (counted x c) (c ∷ ownClaims x cs) (ownClaims x cs)
 
 -- row i of the cycle that a claim with this stamp has after the claims done
 abbrev pub rowAfter : (stamp : ℕ) → (done : List Claim) → Claim → (i : ℕ) → Cells
@@ -46,3 +46,10 @@ paperWords x w (c ∷ cs) = paperWords x (pick (counted x c) (M (M w 0 (c .end1)
 pub record ByPaper (row : Cells) (done : List Claim) (c : Claim) : Type 0 where
   pub words : words (row .memn) ≡ paperWords (c .context) 0 (done ++ (c ∷ []))
   pub gas : C-mem (paperWords (c .context) 0 done) + row .gas ≡ C-mem (paperWords (c .context) 0 (done ++ (c ∷ [])))
+
+-- two rows that say the same of mark, words and gas
+pub record SameCharge (x y : Cells) : Type 0 where
+  pub mark : x .ooob ≡ y .ooob
+  pub memn : x .memn ≡ y .memn
+  pub costn : x .costn ≡ y .costn
+  pub gas : x .gas ≡ y .gas

@@ -45,7 +45,7 @@ pub record Column : Type 0 where
 abbrev column : ℕ → (Cells → ℕ) → Column
 column w f = record { width = w; cell = f }
 
--- 114 bytes, big-endian, in this order (width)
+-- the columns in their order, with their widths: from STAMP to GAS, and every one from COMP on
 abbrev pub upToGas : List Column
 upToGas =
     column 4 (λ x. x .stamp) ∷ column 4 (λ x. x .cn) ∷ column 1 (λ x. x .ooob) ∷ column 1 (λ x. x .ct)
@@ -61,6 +61,7 @@ fromComp =
     ∷ column 4 (λ x. x .q2) ∷ column 1 (λ x. x .q2byte) ∷ column 3 (λ x. x .q2acc)
     ∷ column 1 (λ x. x .aux1) ∷ column 1 (λ x. x .aux2) ∷ []
 
+-- 114 bytes, big-endian, in this order
 abbrev pub columns : List Column
 columns = upToGas ++ fromComp
 
@@ -74,7 +75,7 @@ widths = map (λ (c : Column). c .width) columns
 abbrev pub rowBytes : ℕ
 rowBytes = total widths
 
--- the row of thirty numbers in the order of the columns; a number that is missing is 0
+-- the row with these cells, in the order of the columns; a number that is missing is 0
 abbrev pub ofList : List ℕ → Cells
 ofList l = record {
   stamp = getD l 0 0;

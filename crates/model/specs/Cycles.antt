@@ -56,12 +56,11 @@ pub record Counts : Type 0 where
 abbrev pub isOob : Cycle → Bool
 isOob c = eqb (c .row .ooob) 1
 
+unfoldable pub emptyRows : List Cells → ℕ
+emptyRows rows = count (λ x. not (inUse x)) rows
+
 unfoldable pub counts : List Cells → Counts
-counts rows = record {
-  instructions = length (cycles rows);
-  oob = count isOob (cycles rows);
-  empty = count (λ x. not (inUse x)) rows;
-}
+counts rows = record { instructions = length (cycles rows); oob = count isOob (cycles rows); empty = emptyRows rows }
 
 -- what stands for a cycle where there is none
 abbrev pub noCycle : Cycle
@@ -76,11 +75,15 @@ instruction rows (suc k) = getD (cycles rows) k noCycle
 unfoldable pub part : List ℕ → (i n : ℕ) → List ℕ
 part l i n = take (n * rowBytes) (drop (i * rowBytes) l)
 
--- the rows of instruction k (from 1) as a part of the trace itself, and its claim
+-- whether there is an instruction k
+unfoldable pub isInstruction : List Cells → ℕ → Bool
+isInstruction rows k = leb 1 k && leb k (length (cycles rows))
+
+-- the rows of instruction k (from 1) as a part of the trace itself, empty if there is none; and its claim
 unfoldable pub instructionPart : List ℕ → ℕ → List ℕ
 instructionPart l k =
     let c : Cycle = instruction (rowsOf l) k in
-    part l (c .first) (rowsIn c)
+    pick (isInstruction (rowsOf l) k) (part l (c .first) (rowsIn c)) []
 
 unfoldable pub instructionClaim : List ℕ → ℕ → Claim
 instructionClaim l k = claimOf (instruction (rowsOf l) k .row)
@@ -101,6 +104,13 @@ look x (c ∷ cs) =
 -- from the last cycle back
 unfoldable pub lastState : List Cells → Context → Looked
 lastState rows x = look x (reverse (cycles rows))
+
+-- a walker's next row after k instructions: at first the row after the empty ones
+unfoldable pub nextRow : List Cells → ℕ → ℕ
+nextRow rows zero = emptyRows rows
+nextRow rows (suc k) =
+    let c : Cycle = instruction rows (suc k) in
+    c .first + rowsIn c
 
 -- what a walker's step gives: a part of the trace, and the next row
 pub record Stepped : Type 0 where

@@ -1,14 +1,15 @@
 -- The words in which the theorems about traces are written.
-use Prim.Native.Nat.{ℕ, _/_, _%_, _^_, _<_, _≤_}
+use Prim.Native.Nat.{ℕ, suc, _/_, _%_, _^_, _<_, _≤_}
 use mathlib.Core.Bool.{false, true, not}
 use mathlib.Core.List.{List, [], _∷_}
 use mathlib.Core.Path.{_≡_}
-use lib.ListN.{length}
+use lib.ListN.{length, getD}
 use Rattle.number.specs.Num.{AllBytes}
 use Rattle.model.specs.Columns.{Cells, rowBytes, rowAt, rowsOf}
 use Rattle.model.specs.Constraints.{constraint}
-use Rattle.model.specs.Cycles.{Claim, Counts, claims, count, counts}
-use Rattle.model.specs.Trace.{inBounds, trace}
+use Rattle.model.specs.Cycles.{Cycle, Claim, Counts, Looked, claims, count, emptyRows, counts, noCycle}
+use Rattle.model.specs.State.{Context, sameContext, contextOf, stateOf, start}
+use Rattle.model.specs.Trace.{inBounds, trace, traceBytes}
 use Rattle.model.specs.Verdict.{view, accepted, maxRows, verdict}
 
 -- ---- the verdict
@@ -76,7 +77,7 @@ pub record Accepted (l : List ℕ) : Type 0 where
   pub verdict : verdict l ≡ accepted (counts (rowsOf l))
 
 abbrev pub emptyIn : List ℕ → ℕ
-emptyIn l = counts (rowsOf l) .empty
+emptyIn l = emptyRows (rowsOf l)
 
 abbrev pub claimsIn : List ℕ → List Claim
 claimsIn l = claims (rowsOf l)
@@ -86,3 +87,25 @@ pub record Carries (n : ℕ) (cs : List Claim) (l : List ℕ) : Type 0 where
   pub accepted : Accepted l
   pub empty : emptyIn l ≡ n
   pub claims : claimsIn l ≡ cs
+
+-- it has an empty row and valid claims, and is the trace of its own empty rows and claims
+pub record Own (l : List ℕ) : Type 0 where
+  pub fits : Fits (emptyIn l) (claimsIn l)
+  pub bytes : l ≡ traceBytes (emptyIn l) (claimsIn l)
+
+-- ---- the last state
+
+-- an answer to the last-state question over cycles, the last one first: the first with the context is found at a place (from 0)
+pub record Found (x : Context) (cs : List Cycle) (a : Looked) : Type 0 where
+  pub place : ℕ
+  pub inside : place < length cs
+  pub own : sameContext (contextOf (getD cs place noCycle .row)) x ≡ true
+  pub later : (j : ℕ) → j < place → sameContext (contextOf (getD cs j noCycle .row)) x ≡ false
+  pub state : a .state ≡ stateOf (getD cs place noCycle .row)
+  pub looked : a .cycles ≡ suc place
+
+-- or there is none, and all cycles were looked at
+pub record Absent (x : Context) (cs : List Cycle) (a : Looked) : Type 0 where
+  pub none : (j : ℕ) → j < length cs → sameContext (contextOf (getD cs j noCycle .row)) x ≡ false
+  pub state : a .state ≡ start
+  pub looked : a .cycles ≡ length cs

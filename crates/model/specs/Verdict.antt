@@ -50,10 +50,10 @@ andRow meet i zero = meet
 andRow meet i (suc k) = break i (suc k)
 andRow (break j m) i k = break j m
 
--- the rows below i of n
-unfoldable pub judged : (ℕ → Cells) → (n i : ℕ) → Judgement
-judged r n zero = meet
-judged r n (suc i) = andRow (judged r n i) i (brokenAt r n i)
+-- the rows below i, by the first broken constraint of each row, 0 if it meets all
+unfoldable pub judged : (ℕ → ℕ) → ℕ → Judgement
+judged first zero = meet
+judged first (suc i) = andRow (judged first i) i (first i)
 
 pub data Verdict : Type 0 where
   accepted : Counts → Verdict
@@ -81,4 +81,4 @@ unfoldable pub verdict : List ℕ → Verdict
 verdict l =
     let n : ℕ = length l / rowBytes in
     pick (eqb (length l) 0 || not (eqb (length l % rowBytes) 0)) (refused badLength)
-    (pick (ltb maxRows n) (refused tooManyRows) (verdictBy (judged (rowAt l) n n) (counts (rowsOf l))))
+    (pick (ltb maxRows n) (refused tooManyRows) (verdictBy (judged (brokenAt (rowAt l) n) n) (counts (rowsOf l))))
