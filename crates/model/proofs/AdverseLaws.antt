@@ -8,23 +8,25 @@ use native.Mathlib.Nat.{not-suc-le-zero}
 use lib.Dec.{T, eqb, eqb→eq, ltb, ltb→lt}
 use lib.ListN.{length, set}
 use lib.Seq.{getD-set-other}
-use Rattle.number.specs.Cells.{Fit}
+use Rattle.number.specs.Cells.{total, encode, decode, Fit}
+use Rattle.number.specs.Num.{num, be}
 use Rattle.number.specs.Sums.{prefixAt, digitAt}
 use Rattle.number.specs.Tables.{every}
 use Rattle.number.proofs.TableLaws.{every-at, and-left, and-right}
 use Rattle.gas.specs.Gas.{words, cost, split, joined}
-use Rattle.model.specs.Columns.{Cells, columns, cellsIn, widths, table}
+use Rattle.model.specs.Columns.{Cells, columns, cellsIn, widths, rowAt, table, bytesOf}
 use Rattle.model.specs.Constraints.{lastCt, inUse, equal, stays, grows, constraints, constraint, firstFailed, firstBroken}
 use Rattle.model.specs.Constraints.{k1, k2, k3, k4, k5, k6, k7, k8, k9, k10, k11, k12, k13}
 use Rattle.model.specs.Constraints.{k14, k15, k16, k17, k18, k19, k20, k21, k22, k23, k24, k25, k26}
+use Rattle.model.specs.Cycles.{Looked, cyclesFrom, starts, count, emptyRows, counts, look, lastState, step}
 use Rattle.model.specs.Promises.{constraintCount, Holds}
 use Rattle.model.specs.State.{sameContext, put}
 use Rattle.model.specs.Steps.{stampMoves, ctMoves}
 use Rattle.model.specs.Tests.{pick, isDifference, sumsUp}
 use Rattle.model.specs.Trace.{inBounds, lastOf, apart, above, lastWord, lastByte, square, reach, inRow, beyondEnd, outRow}
-use Rattle.model.specs.Trace.{rowOf, cycleOf, after, cyclesOf, trace}
+use Rattle.model.specs.Trace.{rowOf, cycleOf, after, cyclesOf, trace, traceBytes}
 use Rattle.model.specs.Verdict.{passed, before, view, brokenAt, Judgement, meet, break, judged}
-use Rattle.model.specs.Adverse.{rowIn, judgedRows, BreaksOnly, Witness, Says, sample, witnesses, noEntry, entry}
+use Rattle.model.specs.Adverse.{nextRows, rowIn, judgedRows, BreaksOnly, Witness, Says, sample, witnesses, noEntry, entry}
 use Rattle.model.proofs.RowBytes.{AllFit}
 use Rattle.model.proofs.TableOf.{length-table, getD-table}
 use Rattle.model.proofs.TestFacts.{all-at}
@@ -178,3 +180,25 @@ each-alone (suc k) a b =
 pub sample-rows : length (trace 1 sample) ≡ 33
 unfolding trace cyclesOf cycleOf table lastOf inBounds
 sample-rows = refl
+
+-- its counts: instructions=6 oob=1, after one empty row
+pub sample-counts : counts (trace 1 sample) ≡ record { instructions = 6; oob = 1; empty = 1 }
+unfolding counts emptyRows count cyclesFrom starts inUse trace cyclesOf cycleOf table lastOf inBounds rowOf inRow outRow
+sample-counts = refl
+
+-- the last state of context 1 is that of its third instruction from the end, of context 2 that of the last, and a context that is not there is
+-- looked for in all six
+abbrev stateAt : (mem cost cycles : ℕ) → Looked
+stateAt mem cost cycles = record { state = record { mem = mem; cost = cost }; cycles = cycles }
+
+abbrev asked : ℕ → Looked
+asked cn = lastState (trace 1 sample) (record { cn = cn })
+
+pub sample-last : (asked 1 ≡ stateAt 705 70 3) × (asked 2 ≡ stateAt 64 6 1) × (asked 3 ≡ stateAt 0 0 6)
+unfolding lastState look sameContext cyclesFrom starts inUse trace cyclesOf cycleOf table lastOf inBounds rowOf inRow outRow reach put after words cost
+sample-last = (refl, refl, refl)
+
+-- a walker over its bytes goes from the row after the empty one by 3 rows, and by 17 at the last instruction; then it stays
+pub sample-steps : nextRows 7 (traceBytes 1 sample) 1 ≡ 4 ∷ 7 ∷ 10 ∷ 13 ∷ 16 ∷ 33 ∷ 33 ∷ []
+unfolding step rowAt decode num total lastCt traceBytes bytesOf encode be trace cyclesOf cycleOf table lastOf inBounds rowOf inRow outRow
+sample-steps = refl

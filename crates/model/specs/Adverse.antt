@@ -1,13 +1,13 @@
 -- Adverse traces: small ones, each with the judgement that the constraints of document 01 give it, where a tempting wrong reading of a constraint
 -- would judge otherwise.
-use Prim.Native.Nat.{ℕ, suc, _+_, _*_, _-_, _<_}
+use Prim.Native.Nat.{ℕ, zero, suc, _+_, _*_, _-_, _<_}
 use mathlib.Core.List.{List, [], _∷_, _++_, map}
 use mathlib.Core.Logic.{_≢_}
 use mathlib.Core.Path.{_≡_}
 use lib.ListN.{length, getD, take, drop, set}
 use Rattle.number.specs.Whole.{bound}
 use Rattle.model.specs.Columns.{Cells, columns, cellsIn, ofList, emptyRow}
-use Rattle.model.specs.Cycles.{Claim}
+use Rattle.model.specs.Cycles.{Claim, Stepped, step}
 use Rattle.model.specs.Promises.{Holds}
 use Rattle.model.specs.Trace.{trace}
 use Rattle.model.specs.Verdict.{brokenAt, Judgement, meet, break, judged}
@@ -178,6 +178,8 @@ witnesses =
     -- a cell without use is not 0: where FLAG=0, where FLAG=1
     ∷ witness (claim 1 32 0 ∷ claim 1 0 0 ∷ []) (row 4 Q1BYTE 1 ∷ []) (break 4 23)
     ∷ witness (claim 1 32 0 ∷ []) (row 1 AUX1 1 ∷ []) (break 1 23)
+    -- a cell without use is not 0, out of bounds
+    ∷ witness (claim 1 bound 0 ∷ []) (row 6 DBYTE 1 ∷ []) (break 6 24)
     -- GAS out of bounds
     ∷ witness (claim 1 bound 0 ∷ []) (rows 1 17 GAS 1 ∷ []) (break 1 24)
     -- the state is lost out of bounds
@@ -198,3 +200,10 @@ noEntry = witness [] [] meet
 -- entry k, from 0
 abbrev pub entry : ℕ → Witness
 entry k = getD witnesses k noEntry
+
+-- a walker's next rows, step after step
+abbrev pub nextRows : (steps : ℕ) → List ℕ → ℕ → List ℕ
+nextRows zero l i = []
+nextRows (suc k) l i =
+    let s : Stepped = step l i in
+    s .next ∷ nextRows k l (s .next)
