@@ -11,7 +11,7 @@ for edit in crates/*/must-fail/*.edit; do
     crate=$(basename "$(dirname "$(dirname "$edit")")")
     log=target/must-fail/$crate/$(basename "$edit" .edit)/.log
     edits=$((edits + 1))
-    first=$(grep -m 1 -e ': error' "$log" || true)
+    first=$(grep -a -m 1 -e ': error' "$log" || true)
     case $first in
         *"can be named from here"* | *"is not in scope"* | *"Parse"* | *"does not cover"*) reason="makes a proof name what is not there" ;;
         */proofs/*) continue ;;
