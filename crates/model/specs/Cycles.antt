@@ -27,6 +27,7 @@ unfoldable pub cyclesFrom : ℕ → List Cells → List Cycle
 cyclesFrom i [] = []
 cyclesFrom i (x ∷ xs) = pick (starts x) (record { first = i; row = x } ∷ cyclesFrom (suc i) xs) (cyclesFrom (suc i) xs)
 
+-- the cycles of a trace
 abbrev pub cycles : List Cells → List Cycle
 cycles rows = cyclesFrom 0 rows
 
@@ -36,9 +37,11 @@ pub record Claim : Type 0 where
   pub end1 : ℕ
   pub end2 : ℕ
 
+-- the claim that a row shows
 abbrev pub claimOf : Cells → Claim
 claimOf x = record { context = contextOf x; end1 = x .end1; end2 = x .end2 }
 
+-- the claims of a trace
 abbrev pub claims : List Cells → List Claim
 claims rows = map (λ (c : Cycle). claimOf (c .row)) (cycles rows)
 
@@ -53,6 +56,7 @@ pub record Counts : Type 0 where
   pub oob : ℕ
   pub empty : ℕ
 
+-- an out-of-bounds instruction is one whose OOOB is 1; an empty row, one whose STAMP is 0
 abbrev pub isOob : Cycle → Bool
 isOob c = eqb (c .row .ooob) 1
 

@@ -56,6 +56,7 @@ pub record ValidClaim (c : Claim) : Type 0 where
   pub end1 : c .end1 < 256 ^ 17
   pub end2 : c .end2 < 256 ^ 17
 
+-- each of the claims is valid
 abbrev pub Valid : List Claim → Type 0
 Valid [] = Unit
 Valid (c ∷ cs) = ValidClaim c × Valid cs
@@ -72,10 +73,12 @@ countsOf empty cs = record { instructions = length cs; oob = count (λ c. not (i
 
 -- ---- a byte string as a trace
 
+-- bytes whose verdict is "accepted"
 pub record Accepted (l : List ℕ) : Type 0 where
   pub bytes : AllBytes l
   pub verdict : verdict l ≡ accepted (counts (rowsOf l))
 
+-- its empty rows, and its claims
 abbrev pub emptyIn : List ℕ → ℕ
 emptyIn l = emptyRows (rowsOf l)
 

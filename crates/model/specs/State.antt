@@ -5,6 +5,7 @@ use lib.Dec.{eqb}
 use Rattle.model.specs.Columns.{Cells}
 use Rattle.model.specs.Tests.{pick}
 
+-- a context, by its number
 pub record Context : Type 0 where
   pub cn : ℕ
 
@@ -25,6 +26,7 @@ pub record State : Type 0 where
 abbrev pub start : State
 start = record { mem = 0; cost = 0 }
 
+-- the states before any instruction
 abbrev pub fresh : Context → State
 fresh x = start
 

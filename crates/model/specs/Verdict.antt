@@ -42,6 +42,7 @@ brokenAt r n i = firstBroken (view r n i)
 -- rows meet the constraints, or one of them (from 0) breaks one
 pub data Judgement : Type 0 where
   meet : Judgement
+  -- row and constraint
   break : ℕ → ℕ → Judgement
 
 -- the first broken one is the lowest row, then the lowest number
@@ -56,6 +57,7 @@ judged first zero = meet
 judged first (suc i) = andRow (judged first i) i (first i)
 
 pub data Verdict : Type 0 where
+  -- counts
   accepted : Counts → Verdict
   -- row and constraint
   broken : ℕ → ℕ → Verdict
@@ -73,10 +75,12 @@ badLength = 9
 abbrev pub tooManyRows : ℕ
 tooManyRows = 10
 
+-- accepted with its counts, or broken
 abbrev pub verdictBy : Judgement → Counts → Verdict
 verdictBy meet c = accepted c
 verdictBy (break i k) c = broken i k
 
+-- the verdict of a byte string; refusals come first, in the order of their numbers
 unfoldable pub verdict : List ℕ → Verdict
 verdict l =
     let n : ℕ = length l / rowBytes in
