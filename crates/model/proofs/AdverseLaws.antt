@@ -1,9 +1,10 @@
--- The table of adverse traces: tests that the kernel computes over the whole table, and laws that turn them into what each entry says.
+-- The table of adverse traces: tests that the kernel computes over the whole table, and laws that turn them into what each entry says. And what is
+-- read off document 01's sample, computed.
 use Prim.Native.Nat.{ℕ, zero, suc, _^_, _≤_, _<_}
 use mathlib.Core.Bool.{Bool, true, false, _&&_}
 use mathlib.Core.List.{List, [], _∷_}
 use mathlib.Core.Logic.{_≢_}
-use mathlib.Core.Path.{_≡_, refl, sym, _∙_, ap}
+use mathlib.Core.Path.{_≡_, refl, sym, _∙_, ap, ap₂}
 use native.Mathlib.Nat.{not-suc-le-zero}
 use lib.Dec.{T, eqb, eqb→eq, ltb, ltb→lt}
 use lib.ListN.{length, set}
@@ -14,6 +15,7 @@ use Rattle.number.specs.Sums.{prefixAt, digitAt}
 use Rattle.number.specs.Tables.{every}
 use Rattle.number.proofs.TableLaws.{every-at, and-left, and-right}
 use Rattle.gas.specs.Gas.{words, cost, split, joined}
+use Rattle.model.specs.Adverse.{rowIn, judgedRows, BreaksOnly, Witness, Says, sample, witnesses, noEntry, entry, nextRows}
 use Rattle.model.specs.Columns.{Cells, columns, cellsIn, widths, rowAt, table, bytesOf}
 use Rattle.model.specs.Constraints.{lastCt, inUse, equal, stays, grows, constraints, constraint, firstFailed, firstBroken}
 use Rattle.model.specs.Constraints.{k1, k2, k3, k4, k5, k6, k7, k8, k9, k10, k11, k12, k13}
@@ -26,7 +28,6 @@ use Rattle.model.specs.Tests.{pick, isDifference, sumsUp}
 use Rattle.model.specs.Trace.{inBounds, lastOf, apart, above, lastWord, lastByte, square, reach, inRow, beyondEnd, outRow}
 use Rattle.model.specs.Trace.{rowOf, cycleOf, after, cyclesOf, trace, traceBytes}
 use Rattle.model.specs.Verdict.{passed, before, view, brokenAt, Judgement, meet, break, judged}
-use Rattle.model.specs.Adverse.{nextRows, rowIn, judgedRows, BreaksOnly, Witness, Says, sample, witnesses, noEntry, entry}
 use Rattle.model.proofs.RowBytes.{AllFit}
 use Rattle.model.proofs.TableOf.{length-table, getD-table}
 use Rattle.model.proofs.TestFacts.{all-at}
@@ -45,9 +46,7 @@ same-path meet meet t = refl
 same-path meet (break i k) t = absurd t
 same-path (break i k) meet t = absurd t
 same-path (break i k) (break j m) t =
-    let p = eqb→eq i j (and-left (eqb i j) (eqb k m) t) in
-    let q = eqb→eq k m (and-right (eqb i j) (eqb k m) t) in
-    λ n. break (p n) (q n)
+    ap₂ break (eqb→eq i j (and-left (eqb i j) (eqb k m) t)) (eqb→eq k m (and-right (eqb i j) (eqb k m) t))
 
 -- it names constraint k
 names : ℕ → Judgement → Bool
@@ -171,31 +170,35 @@ each-alone zero a b = absurd (not-suc-le-zero a)
 each-alone (suc k) a b =
     let n : ℕ = found k in
     let is : T (isFound k) = below-at isFound constraintCount (computed .found) k b in
-    let l = ltb→lt n (length witnesses) (and-left (ltb n (length witnesses)) (names (suc k) (entry n .judgement)) is) in
-    let (i, e) = names-path (suc k) (entry n .judgement) (and-right (ltb n (length witnesses)) (names (suc k) (entry n .judgement)) is) in
+    let named : Bool = names (suc k) (entry n .judgement) in
+    let l = ltb→lt n (length witnesses) (and-left (ltb n (length witnesses)) named is) in
+    let (i, e) = names-path (suc k) (entry n .judgement) (and-right (ltb n (length witnesses)) named is) in
     let others = others-hold k (entry n .shown) (below-at brokenAlone constraintCount (computed .alone) k b) in
     (n, l, record { row = i; breaks = witnesses-hold n l ∙ e; others = others })
 
--- document 01's sample: rows=33
+-- ---- document 01's sample
+
+-- rows=33
 pub sample-rows : length (trace 1 sample) ≡ 33
 unfolding trace cyclesOf cycleOf table lastOf inBounds
 sample-rows = refl
 
--- its counts: instructions=6 oob=1, after one empty row
+-- instructions=6 oob=1, after one empty row
 pub sample-counts : counts (trace 1 sample) ≡ record { instructions = 6; oob = 1; empty = 1 }
 unfolding counts emptyRows count cyclesFrom starts inUse trace cyclesOf cycleOf table lastOf inBounds rowOf inRow outRow
 sample-counts = refl
 
--- the last state of context 1 is that of its third instruction from the end, of context 2 that of the last, and a context that is not there is
--- looked for in all six
 abbrev stateAt : (mem cost cycles : ℕ) → Looked
 stateAt mem cost cycles = record { state = record { mem = mem; cost = cost }; cycles = cycles }
 
 abbrev asked : ℕ → Looked
 asked cn = lastState (trace 1 sample) (record { cn = cn })
 
+-- the last state of context 1 is that of the third instruction from the end, of context 2 that of the last, and a context that is not there is
+-- looked for in all six
 pub sample-last : (asked 1 ≡ stateAt 705 70 3) × (asked 2 ≡ stateAt 64 6 1) × (asked 3 ≡ stateAt 0 0 6)
-unfolding lastState look sameContext cyclesFrom starts inUse trace cyclesOf cycleOf table lastOf inBounds rowOf inRow outRow reach put after words cost
+unfolding lastState look sameContext cyclesFrom starts inUse trace cyclesOf cycleOf table lastOf inBounds rowOf inRow outRow
+    reach put after words cost
 sample-last = (refl, refl, refl)
 
 -- a walker over its bytes goes from the row after the empty one by 3 rows, and by 17 at the last instruction; then it stays

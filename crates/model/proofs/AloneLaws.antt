@@ -6,12 +6,12 @@ use mathlib.Core.Logic.{_⊎_, inl, inr, ⊎-elim, _↔_}
 use mathlib.Core.Path.{_≡_, refl, sym, _∙_, ap}
 use native.Mathlib.Nat.{not-le-of-lt, zero-add, zero-max, max-zero}
 use native.Mathlib.Omega.{arith}
-use borrow.Author.Tests.{eqb-true, eq-eqb, ltb-true, ltb-false}
+use borrow.Author.Tests.{eqb-true, ltb-true, ltb-false}
 use lib.Dec.{ltb}
 use Rattle.number.specs.Whole.{bound}
 use Rattle.gas.specs.Gas.{words, cost, rangeEnd}
 use Rattle.gas.specs.Paper.{M, C-mem}
-use Rattle.gas.proofs.GasLaws.{words-max, cost-monotone}
+use Rattle.gas.proofs.GasLaws.{words-max}
 use Rattle.gas.proofs.PaperLaws.{words-paper, cost-paper}
 use Rattle.model.specs.Alone.{counted, reached, ownClaims, paperWords, rowAfter, Alone, ByPaper, SameCharge}
 use Rattle.model.specs.Columns.{Cells}
@@ -19,8 +19,10 @@ use Rattle.model.specs.Cycles.{Claim}
 use Rattle.model.specs.State.{Context, State, sameContext, fresh, put}
 use Rattle.model.specs.Tests.{pick, bit}
 use Rattle.model.specs.Trace.{inBounds, top, reach, after, afterClaim, afterClaims}
+use Rattle.model.proofs.JoinLaws.{after-snoc}
 use Rattle.model.proofs.ReadBack.{is-row}
-use Rattle.model.proofs.StateLaws.{Sound, AllSound, sound-after, all-sound-fresh, all-sound-after}
+use Rattle.model.proofs.StateLaws.{AllSound, paid-more, all-sound-fresh, all-sound-after}
+use Rattle.model.proofs.TestFacts.{eqb-self}
 
 -- ---- what claims reach
 
@@ -74,22 +76,18 @@ unfolding afterClaims
 all-sound-claims states [] k = k
 all-sound-claims states (c ∷ cs) k = all-sound-claims (afterClaim states c) cs (all-sound-after states c k)
 
--- where what is reached is known, so is a sound state
-paid : (s : State) (m : ℕ) → Sound s → s .mem ≡ m → s ≡ record { mem = m; cost = cost (words m) }
-paid s m k e = λ i. record { mem = e i; cost = (k .cost ∙ ap (λ (n : ℕ). cost (words n)) e) i }
-
-sound-claims : (cs : List Claim) (x : Context) → Sound (afterClaims fresh cs x)
-sound-claims cs = all-sound-claims fresh cs all-sound-fresh
-
 -- the state after claims is their greatest end and its cost
 pub after-reached : (cs : List Claim) (x : Context) → afterClaims fresh cs x ≡ record { mem = reached x cs; cost = cost (words (reached x cs)) }
-after-reached cs x = paid (afterClaims fresh cs x) (reached x cs) (sound-claims cs x) (mem-claims fresh cs x ∙ zero-max (reached x cs))
+after-reached cs x =
+    let e : afterClaims fresh cs x .mem ≡ reached x cs = mem-claims fresh cs x ∙ zero-max (reached x cs) in
+    let s = all-sound-claims fresh cs all-sound-fresh x in
+    λ i. record { mem = e i; cost = (s .cost ∙ ap (λ (n : ℕ). cost (words n)) e) i }
 
 -- ---- one claim more
 
 same-self : (x : Context) → sameContext x x ≡ true
 unfolding sameContext
-same-self x = eq-eqb (x .cn) (x .cn) refl
+same-self x = eqb-self (x .cn)
 
 reached-with : (done : List Claim) (c : Claim)
     → reached (c .context) (done ++ (c ∷ [])) ≡ max (reached (c .context) done) (pick (inBounds c) (top c) 0)
@@ -98,11 +96,8 @@ reached-with done c = rw (reached-append (c .context) done (c ∷ []), same-self
 
 after-with : (done : List Claim) (c : Claim) → after (afterClaims fresh done (c .context)) c
     ≡ record { mem = reached (c .context) (done ++ (c ∷ [])); cost = cost (words (reached (c .context) (done ++ (c ∷ [])))) }
-after-with done c =
-    let s : State = afterClaims fresh done (c .context) in
-    let m : s .mem ≡ reached (c .context) done = ap (λ (t : State). t .mem) (after-reached done (c .context)) in
-    paid (after s c) (reached (c .context) (done ++ (c ∷ []))) (sound-after s c (sound-claims done (c .context)))
-    (mem-after s c ∙ ap (λ (n : ℕ). max n (pick (inBounds c) (top c) 0)) m ∙ sym (reached-with done c))
+unfolding put
+after-with done c = rw (after-snoc, same-self (c .context)) at (after-reached (done ++ (c ∷ [])) (c .context))
 
 -- the claim and the earlier in-bounds ones of its context determine mark, words and gas
 pub alone-same : (x y : Cells) (done earlier : List Claim) (c : Claim) → Alone x done c → Alone y earlier c
@@ -111,7 +106,7 @@ alone-same x y done earlier c a b e =
     let before : reached (c .context) done ≡ reached (c .context) earlier =
     reached-own (c .context) done ∙ ap (reached (c .context)) e ∙ sym (reached-own (c .context) earlier) in
     let next : reached (c .context) (done ++ (c ∷ [])) ≡ reached (c .context) (earlier ++ (c ∷ [])) =
-    reached-with done c ∙ ap (λ (m : ℕ). max m (pick (inBounds c) (top c) 0)) before ∙ sym (reached-with earlier c) in
+    omega (arith, reached-with done c, reached-with earlier c) in
     let paid = ap (λ (m : ℕ). cost (words m)) next in
     record {
       mark = a .mark ∙ sym (b .mark);
@@ -131,21 +126,14 @@ unfolding inBounds
 marks c = go (ltb (c .end1) bound) (ltb (c .end2) bound) refl refl
   where
     go : (t u : Bool) → ltb (c .end1) bound ≡ t → ltb (c .end2) bound ≡ u → (bit (not (t && u)) ≡ 1) ↔ ((bound ≤ c .end1) ⊎ (bound ≤ c .end2))
-    go true true p q = (
-      λ h. absurd (omega arith),
-      ⊎-elim
-          (λ h. absurd (not-le-of-lt (ltb-true (c .end1) bound p) h))
-          (λ h. absurd (not-le-of-lt (ltb-true (c .end2) bound q) h)),
-    )
+    go true true p q =
+        let m = ltb-true (c .end1) bound p in
+        let n = ltb-true (c .end2) bound q in
+        (λ h. absurd (omega arith), ⊎-elim (λ h. absurd (not-le-of-lt m h)) (λ h. absurd (not-le-of-lt n h)))
     go true false p q = (λ h. inr (ltb-false (c .end2) bound q), λ h. refl)
     go false u p q = (λ h. inl (ltb-false (c .end1) bound p), λ h. refl)
 
 -- ---- the rows of a claim
-
--- more claims cost no less
-paid-more : (done : List Claim) (c : Claim) → cost (words (reached (c .context) done)) ≤ cost (words (reached (c .context) (done ++ (c ∷ []))))
-unfolding words
-paid-more done c = cost-monotone (omega (arith, reached-with done c))
 
 module _ (stamp : ℕ) (done : List Claim) (c : Claim) (i : ℕ) where
   -- a row says what the claims alone say
@@ -155,13 +143,15 @@ module _ (stamp : ℕ) (done : List Claim) (c : Claim) (i : ℕ) where
       let next = row .state ∙ after-with done c in
       let before = ap (λ (t : State). t .cost) (after-reached done (c .context)) in
       let cost = ap (λ (t : State). t .cost) (after-with done c) in
+      let more : reached (c .context) done ≤ reached (c .context) (done ++ (c ∷ [])) = omega (arith, reached-with done c) in
       record {
         mark = row .ooob;
         memn = ap (λ (t : State). t .mem) next;
         costn = ap (λ (t : State). t .cost) next;
-        gas = omega (arith, row .gas, before, cost, paid-more done c);
+        gas = omega (arith, row .gas, before, cost, paid-more more);
       }
 
+  -- an out-of-bounds claim reaches nothing more and costs 0
   pub out-adds-nothing : inBounds c ≡ false
       → (reached (c .context) (done ++ (c ∷ [])) ≡ reached (c .context) done) × (rowAfter stamp done c i .gas ≡ 0)
   out-adds-nothing e =
@@ -186,13 +176,14 @@ unfolding paperWords reached words
 paper-from [] x w = sym (max-zero w)
 paper-from (c ∷ cs) x w = rw (paper-from cs x, paper-claim, words-max) (omega arith)
 
--- the words of the greatest end are the Paper's active words, and the gas is the growth of its C_mem
+-- the words of the greatest end are the Paper's active words, and their cost is its C_mem
 words-by-paper : (cs : List Claim) (x : Context) → words (reached x cs) ≡ paperWords x 0 cs
 words-by-paper cs x = sym (paper-from cs x 0 ∙ zero-max (words (reached x cs)))
 
 cost-by-paper : (cs : List Claim) (x : Context) → cost (words (reached x cs)) ≡ C-mem (paperWords x 0 cs)
 cost-by-paper cs x = cost-paper (words (reached x cs)) ∙ ap C-mem (words-by-paper cs x)
 
+-- a row says what the Yellow Paper says
 pub row-by-paper : (stamp : ℕ) (done : List Claim) (c : Claim) (i : ℕ) → ByPaper (rowAfter stamp done c i) done c
 row-by-paper stamp done c i =
     let row = row-alone stamp done c i in

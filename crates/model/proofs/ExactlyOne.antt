@@ -4,42 +4,35 @@ use Prim.Native.Nat.{ℕ, suc, _*_, _/_, _^_, _<_, _≤_}
 use mathlib.Core.List.{List, [], _∷_}
 use mathlib.Core.Path.{_≡_, refl, sym, _∙_, ap, ap₂}
 use native.Mathlib.Omega.{arith}
-use lib.ListN.{length, getD, length-append, length-replicate, replicate}
+use lib.ListN.{length, getD}
 use Rattle.number.specs.Cells.{total}
 use Rattle.number.specs.Num.{AllBytes}
 use Rattle.model.specs.Columns.{Cells, emptyRow, rowBytes, rowAt, table, rowsOf, bytesOf}
-use Rattle.model.specs.Cycles.{Claim, Counts, claims, emptyRows, counts}
+use Rattle.model.specs.Cycles.{Cycle, starts, cyclesFrom, Claim, Counts, claims, emptyRows, counts}
 use Rattle.model.specs.Promises.{AllHold, WellSized, Meets, Valid, Fits, countsOf, Accepted, emptyIn, claimsIn, Carries, Own}
-use Rattle.model.specs.State.{Context, State, fresh}
-use Rattle.model.specs.Trace.{cycleOf, afterClaim, cyclesOf, trace, traceBytes}
-use Rattle.model.specs.Verdict.{accepted, maxRows, verdict}
+use Rattle.model.specs.Trace.{trace, traceBytes}
+use Rattle.model.specs.Verdict.{accepted, verdict}
 use Rattle.model.proofs.FitLaws.{trace-fits}
-use Rattle.model.proofs.JoinLaws.{length-cycle}
-use Rattle.model.proofs.ReadBack.{claims-trace, empty-trace, counts-trace}
-use Rattle.model.proofs.RowBytes.{AllFit, row-fits, length-bytes, bytes-are-bytes, row-back, rows-back, bytes-back}
-use Rattle.model.proofs.TableOf.{length-table}
+use Rattle.model.proofs.JoinLaws.{length-trace}
+use Rattle.model.proofs.ReadBack.{claims-trace, instructions-trace, empty-trace, counts-trace}
+use Rattle.model.proofs.RowBytes.{AllFit, length-rows, row-fits, length-bytes, bytes-are-bytes, row-back, rows-back, bytes-back}
+use Rattle.model.proofs.TestFacts.{pick-has}
 use Rattle.model.proofs.TraceMeets.{trace-holds}
 use Rattle.model.proofs.TraceUnique.{rows-are-trace}
 use Rattle.model.proofs.VerdictLaws.{all-hold-local, verdict-accepted}
 
 -- ---- existence
 
--- each claim has a row of its own
-claims-le : (stamp : ℕ) (states : Context → State) (cs : List Claim) → length cs ≤ length (cyclesOf stamp states cs)
-unfolding cyclesOf
-claims-le stamp states [] = omega arith
-claims-le stamp states (c ∷ cs) =
-    let rest : List Cells = cyclesOf (suc stamp) (afterClaim states c) cs in
-    omega (
-      arith,
-      length-append (cycleOf stamp (states (c .context)) c) rest,
-      length-cycle stamp (states (c .context)) c,
-      claims-le (suc stamp) (afterClaim states c) cs,
-    )
+-- each cycle has a row of its own
+cycles-le : (i : ℕ) (xs : List Cells) → length (cyclesFrom i xs) ≤ length xs
+unfolding cyclesFrom
+cycles-le i [] = omega arith
+cycles-le i (x ∷ xs) =
+    let rest = cycles-le (suc i) xs in
+    pick-has (λ (cs : List Cycle). length cs ≤ suc (length xs)) (starts x) (λ e. omega arith) (λ e. omega arith)
 
 claims-lt : (n : ℕ) (cs : List Claim) → Fits n cs → length cs < 256 ^ 4
-unfolding trace
-claims-lt n cs f = omega (arith, claims-le 1 fresh cs, length-append (replicate n emptyRow) (cyclesOf 1 fresh cs), f .rows)
+claims-lt n cs f = omega (arith, instructions-trace n cs, cycles-le 0 (trace n cs), f .rows)
 
 module _ (n : ℕ) (cs : List Claim) (f : Fits n cs) where
   abbrev rows : List Cells
@@ -60,27 +53,21 @@ module _ (n : ℕ) (cs : List Claim) (f : Fits n cs) where
   bytes-length = length-bytes rows
 
   rows-length : length l / rowBytes ≡ length rows
-  unfolding total
-  rows-length = omega (arith, bytes-length)
-
-  some-rows : n ≤ length rows
-  unfolding trace
-  some-rows = omega (arith, length-append (replicate n emptyRow) (cyclesOf 1 fresh cs), length-replicate n emptyRow)
+  rows-length = sym (length-rows l) ∙ ap length rows-read
 
   sized : WellSized l
   unfolding total
-  sized = record { some = omega (arith, bytes-length, some-rows, f .some); whole = omega (arith, bytes-length); rows = rw rows-length (f .rows) }
-
-  holds-here : (i : ℕ) → i < length rows → AllHold (λ j. getD rows j emptyRow) (length rows) i
-  holds-here = trace-holds n cs (f .some) (f .valid)
-
-  row-read : (i : ℕ) → i < length rows → getD rows i emptyRow ≡ rowAt l i
-  unfolding traceBytes
-  row-read i h = sym (row-back rows i fit h)
+  sized = record {
+    some = omega (arith, bytes-length, length-trace n cs, f .some);
+    whole = omega (arith, bytes-length);
+    rows = rw rows-length (f .rows);
+  }
 
   holds-read : (i : ℕ) → i < length rows → AllHold (rowAt l) (length rows) i
+  unfolding traceBytes
   holds-read i h =
-      all-hold-local (λ j. getD rows j emptyRow) (rowAt l) (length rows) (length rows) i (λ j k. row-read j (omega arith)) refl (holds-here i h)
+      all-hold-local (λ j. getD rows j emptyRow) (rowAt l) (length rows) (length rows) i (λ j k. sym (row-back rows j fit (omega arith))) refl
+      (trace-holds n cs (f .some) (f .valid) i h)
 
   counts-read : counts (rowsOf l) ≡ countsOf n cs
   counts-read = ap counts rows-read ∙ counts-trace n cs
@@ -89,7 +76,7 @@ module _ (n : ℕ) (cs : List Claim) (f : Fits n cs) where
   pub trace-accepted : verdict l ≡ accepted (countsOf n cs)
   trace-accepted = verdict-accepted l (countsOf n cs) .1 (record { sized = sized; holds = rw rows-length holds-read; counted = sym counts-read })
 
-  -- the claims that are read back are these
+  -- the claims that are read back from it are these
   pub claims-read : claimsIn l ≡ cs
   claims-read = ap claims rows-read ∙ claims-trace n cs
 
@@ -135,18 +122,15 @@ module _ (l : List ℕ) (a : Accepted l) where
   claims-are : claimsIn l ≡ are .1
   claims-are = ap claims rows-are ∙ claims-trace (suc (are .0)) (are .1)
 
+  -- the rows of accepted bytes are the trace of their own empty rows and claims
   pub rows-own : rowsOf l ≡ trace (emptyIn l) (claimsIn l)
   rows-own = rw (empty-are, claims-are) rows-are
-
-  fit-rows : length (rowsOf l) ≤ maxRows
-  unfolding rowsOf
-  fit-rows = rw length-table (meets .sized .rows)
 
   -- accepted bytes have an empty row and valid claims, and are the trace of their own
   pub accepted-own : Own l
   unfolding traceBytes
   accepted-own = record {
-    fits = record { some = rw empty-are (omega arith); valid = rw claims-are (are .2); rows = rw (← rows-own) fit-rows };
+    fits = record { some = rw empty-are (omega arith); valid = rw claims-are (are .2); rows = rw (← rows-own, length-rows) (meets .sized .rows) };
     bytes = sym (bytes-back l (a .bytes) (meets .sized .whole)) ∙ ap bytesOf rows-own;
   }
 

@@ -2,7 +2,7 @@
 use Prim.Native.Nat.{ℕ, zero, suc, _+_, _-_, _/_, _^_, _<_, _≤_, zero-le, suc-le-suc}
 use mathlib.Core.Bool.{Bool, true, false}
 use mathlib.Core.List.{List, [], _∷_, _++_, map}
-use mathlib.Core.Path.{_≡_, refl}
+use mathlib.Core.Path.{_≡_}
 use native.Mathlib.Nat.{div-le-self, le-of-suc-le-suc, lt-of-le-of-lt, mul-le-mul, one-le-pow, sub-le}
 use native.Mathlib.Omega.{arith}
 use lib.Dec.{leb, ltb}
@@ -23,12 +23,12 @@ use Rattle.model.specs.Trace.{inBounds, lastOf, top, apart, above, lastW
 use Rattle.model.specs.Trace.{beyondEnd, outRow, rowOf, cycleOf, after, afterClaim, cyclesOf, trace}
 use Rattle.model.proofs.RowBytes.{AllFit}
 use Rattle.model.proofs.StateLaws.{Sound, AllSound, top-lt, sound-after, all-sound-fresh, all-sound-after}
+use Rattle.model.proofs.TestFacts.{pick-has}
 
 -- ---- the numbers of a row
 
-pub pick-lt : (b : Bool) {x y n : ℕ} → x < n → y < n → pick b x y < n
-pick-lt true p q = p
-pick-lt false p q = q
+pick-lt : (b : Bool) {x y n : ℕ} → x < n → y < n → pick b x y < n
+pick-lt b {n = n} p q = pick-has (λ x. x < n) b (λ e. p) (λ e. q)
 
 in-rows-lt : (i : ℕ) {a b c n : ℕ} → a < n → b < n → c < n → inRows a b c i < n
 in-rows-lt zero p q r = p
@@ -48,7 +48,7 @@ cost-lt t h =
 paid-lt : {s : State} → Sound s → s .cost < 256 ^ 4
 paid-lt {s} k = omega (arith, cost-lt (s .mem) (k .mem))
 
--- whatever the two comparisons answer
+-- the numbers of an in-bounds cycle, whatever its two comparisons answer
 pub apart-lt : (atLeast : Bool) {a b n : ℕ} → a < n → b < n → apart atLeast a b < n
 unfolding apart
 apart-lt atLeast p q = pick-lt atLeast (omega arith) (omega arith)
@@ -75,6 +75,11 @@ unfolding square
 square-in-range true t = split-in-range (words t)
 square-in-range false t = omega arith
 
+-- how far an end is beyond the bound
+pub beyond-lt : (c : Claim) → ValidClaim c → beyondEnd c - bound < 256 ^ 17
+unfolding beyondEnd
+beyond-lt c v = lt-of-le-of-lt (sub-le _ bound) (pick-lt (leb bound (c .end1)) (v .end1) (v .end2))
+
 -- ---- a row
 
 -- one cell after the other
@@ -86,11 +91,6 @@ zeros-fit : (ws : List ℕ) → Fit ws (map (λ w. 0) ws)
 unfolding Fit
 zeros-fit [] = tt
 zeros-fit (w ∷ ws) = (one-le-pow w 256 (omega arith), zeros-fit ws)
-
-pick-fits : (b : Bool) (x y : Cells) → (b ≡ true → Fit widths (cellsIn columns x)) → (b ≡ false → Fit widths (cellsIn columns y))
-    → Fit widths (cellsIn columns (pick b x y))
-pick-fits true x y f g = f refl
-pick-fits false x y f g = g refl
 
 -- the state that an in-bounds claim leaves, by its comparison alone
 sound-reached : (s : State) (c : Claim) → inBounds c ≡ true → Sound s → Sound (reach (ltb (s .mem) (top c)) (top c) s)
@@ -119,17 +119,17 @@ module _ (stamp : ℕ) (s : State) (c : Claim) (i : ℕ) (z : stamp < 256 ^ 4) (
       & in-rows-lt i (omega arith) (omega arith) (omega arith) & tt
 
   out-row-fits : i ≤ outLast → Fit widths (cellsIn columns (outRow stamp s c i))
-  unfolding Fit outRow beyondEnd
+  unfolding Fit outRow
   out-row-fits h =
-      let d = lt-of-le-of-lt (sub-le _ bound) (pick-lt (leb bound (c .end1)) (v .end1) (v .end2)) in
       z & v .cn & omega arith & omega arith & v .end1 & v .end2
-      & digit-lt outLast _ i & omega arith & prefix-lt outLast i d & omega arith
+      & digit-lt outLast _ i & omega arith & prefix-lt outLast i (beyond-lt c v) & omega arith
       & k .mem & k .mem & paid-lt k & paid-lt k & omega arith & zeros-fit (map (λ (x : Column). x .width) fromComp)
 
+  -- each cell of a valid claim's row fits its column, at a stamp of 4 bytes and a sound state
   pub row-of-fits : i ≤ lastOf c → Fit widths (cellsIn columns (rowOf stamp s c i))
   unfolding rowOf lastOf
   row-of-fits h =
-      pick-fits (inBounds c) (inRow (leb (c .end2) (c .end1)) (ltb (s .mem) (top c)) stamp s c i) (outRow stamp s c i)
+      pick-has (λ x. Fit widths (cellsIn columns x)) (inBounds c)
       (λ e. in-row-fits (leb (c .end2) (c .end1)) (ltb (s .mem) (top c)) e (sound-reached s c e k) (rw e at h))
       (λ e. out-row-fits (rw e at h))
 
@@ -161,7 +161,7 @@ fit-cycles stamp states (c ∷ cs) k v h =
     (fit-cycle stamp (states (c .context)) c (omega arith) (k (c .context)) (v .0))
     (fit-cycles (suc stamp) (afterClaim states c) cs (all-sound-after states c k) (v .1) (omega arith))
 
--- the stamps run from 1 to the number of claims
+-- and each cell of the trace of valid claims, whose stamps run from 1 to their number
 pub trace-fits : (n : ℕ) (cs : List Claim) → Valid cs → length cs < 256 ^ 4 → AllFit (trace n cs)
 unfolding trace
 trace-fits n cs v h = fit-append (replicate n emptyRow) (cyclesOf 1 fresh cs) (fit-empty n) (fit-cycles 1 fresh cs all-sound-fresh v (omega arith))

@@ -1,29 +1,26 @@
 -- The rows of an in-bounds cycle that meets the constraints are those of its claim.
 use Prim.Native.Nat.{ℕ, zero, suc, _+_, _*_, _-_, _/_, _%_, _^_, _<_, _≤_, max}
 use mathlib.Core.Bool.{Bool, true, false}
-use mathlib.Core.List.{List}
-use mathlib.Core.Path.{_≡_, refl, sym, _∙_, ap, ap₂}
+use mathlib.Core.Path.{_≡_, sym, _∙_, ap}
 use native.Mathlib.Omega.{arith}
 use borrow.Author.Tests.{le-leb, lt-leb, lt-ltb, le-ltb}
 use lib.Dec.{eqb, leb, ltb}
-use lib.ListN.{getD}
 use Rattle.number.specs.Sums.{prefixAt, digitAt}
 use Rattle.number.specs.Whole.{bound}
 use Rattle.number.proofs.SumLaws.{prefix-zero, digit-zero}
 use Rattle.number.proofs.TestLaws.{both-intro}
-use Rattle.gas.specs.Gas.{wordBytes, Parts, joined, words, cost, split}
+use Rattle.gas.specs.Gas.{wordBytes, Parts, joined, words, split}
 use Rattle.gas.proofs.GasLaws.{cost-split, split-unique}
 use Rattle.model.specs.Columns.{Cells}
-use Rattle.model.specs.Constraints.{inLast, within, auxLift, View, kept, quotients}
-use Rattle.model.specs.Constraints.{k10, k11, k12, k13, k14, k15, k16, k17, k18, k19, k20, k21, k22, k23}
-use Rattle.model.specs.Cycles.{Claim, claimOf}
-use Rattle.model.specs.State.{State}
+use Rattle.model.specs.Constraints.{inLast, within, auxLift, View, quotients}
+use Rattle.model.specs.Constraints.{k10, k11, k12, k13}
+use Rattle.model.specs.Cycles.{claimOf}
 use Rattle.model.specs.Tests.{pick, bit, zeros, isDifference, sumsUp}
 use Rattle.model.specs.Trace.{inBounds, top, apart, above, lastWord, lastByte, square, inRows, reach, inRow, rowOf}
 use Rattle.model.proofs.ConstraintFacts.{Stayed, Grown, Divided}
 use Rattle.model.proofs.ConstraintFacts.{says14, says15, says16, says17, says18, says19, says20, says21-22, says23}
-use Rattle.model.proofs.CycleRows.{narrow-at, sum-fits, pinned, Rows, stateIn, claim-kept, state-kept, kept-first, kept-last}
-use Rattle.model.proofs.RowFacts.{Narrow, of-used, of-within}
+use Rattle.model.proofs.CycleRows.{Rows, stateIn, as-last, as-first, narrow-at, met10, sum-fits, pinned}
+use Rattle.model.proofs.RowFacts.{Narrow, of-within}
 use Rattle.model.proofs.TestFacts.{zeros-at, difference}
 
 -- ---- the arithmetic, over plain numbers
@@ -64,15 +61,15 @@ reached (suc zero) d t m h k =
     record { flag = rw w; above = rw w (omega arith) }
 reached (suc (suc f)) d t m h k = absurd (omega arith)
 
--- the cells that turn on whether the memory grows, in the rows a, b, x of a cycle: t is the greater end and s the state before
-record Turned (grown : Bool) (t : ℕ) (s : State) (a b x : Cells) : Type 0 where
+-- the cells that turn on whether the memory grows, in the rows a, b, x of a cycle with the greater end t
+record Turned (grown : Bool) (t : ℕ) (a b x : Cells) : Type 0 where
   q1 : x .q1 ≡ lastWord grown t
   q1acc : x .q1acc ≡ lastWord grown t
   q2 : x .q2 ≡ square grown t .q2
   q2acc : x .q2acc ≡ square grown t .q2 % 256 ^ 3
-  memn : x .memn ≡ reach grown t s .mem
-  costn : x .costn ≡ reach grown t s .cost
-  gas : x .gas ≡ reach grown t s .cost - s .cost
+  memn : x .memn ≡ reach grown t (stateIn x) .mem
+  costn : x .costn ≡ reach grown t (stateIn x) .cost
+  gas : x .gas ≡ reach grown t (stateIn x) .cost - x .cost
   rest0 : a .aux1 ≡ 0
   rest1 : b .aux1 ≡ pick grown (lastByte grown t + auxLift) 0
   rest2 : x .aux1 ≡ lastByte grown t
@@ -93,10 +90,10 @@ square-of : (q t : ℕ) (p : Parts) → 1 + q ≡ words t → (1 + q) * (1 + q) 
 square-of q t p e h = sym h ∙ ap (λ (a : ℕ). a * a) e
 
 -- where FLAG=1
-turned-true : (t : ℕ) (s : State) (a b x : Cells) → x .endmax ≡ t → x .cost ≡ s .cost → b .aux1 < 256 → x .aux2 < 256 → x .q2acc < 256 ^ 3
-    → Grown x → Divided a b x → a .aux1 ≡ 0 → Turned true t s a b x
+turned-true : (t : ℕ) (a b x : Cells) → x .endmax ≡ t → b .aux1 < 256 → x .aux2 < 256 → x .q2acc < 256 ^ 3
+    → Grown x → Divided a b x → a .aux1 ≡ 0 → Turned true t a b x
 unfolding lastWord lastByte square reach
-turned-true t s a b x et es l1 l2 l3 g d f =
+turned-true t a b x et l1 l2 l3 g d f =
     let w = word-unique t (x .q1) (x .aux1) (b .aux1) (d .word ∙ et) (d .lift) l1 in
     let p : Parts = record { q2 = x .q2; e = a .aux2; low = x .aux2 } in
     let u : p ≡ split (words t) = split-unique (words t) p (record { bit = d .e; byte = l2 }) (square-of (x .q1) t p (w .2) (d .square)) in
@@ -119,20 +116,20 @@ turned-true t s a b x et es l1 l2 l3 g d f =
     }
 
 -- where FLAG=0
-turned-false : (t : ℕ) (s : State) (a b x : Cells) → x .mem ≡ s .mem → x .cost ≡ s .cost → Stayed x
-    → zeros (quotients a) ≡ true → zeros (quotients b) ≡ true → zeros (quotients x) ≡ true → Turned false t s a b x
+turned-false : (t : ℕ) (a b x : Cells) → Stayed x
+    → zeros (quotients a) ≡ true → zeros (quotients b) ≡ true → zeros (quotients x) ≡ true → Turned false t a b x
 unfolding lastWord lastByte square reach
-turned-false t s a b x em es g ua ub ux =
-    let za : (i : ℕ) → getD (quotients a) i 0 ≡ 0 = zeros-at (quotients a) ua in
-    let zb : (i : ℕ) → getD (quotients b) i 0 ≡ 0 = zeros-at (quotients b) ub in
-    let zx : (i : ℕ) → getD (quotients x) i 0 ≡ 0 = zeros-at (quotients x) ux in
+turned-false t a b x g ua ub ux =
+    let za = zeros-at (quotients a) ua in
+    let zb = zeros-at (quotients b) ub in
+    let zx = zeros-at (quotients x) ux in
     record {
       q1 = zx 0;
       q1acc = zx 2;
       q2 = zx 3;
       q2acc = zx 5;
-      memn = g .memn ∙ em;
-      costn = g .costn ∙ es;
+      memn = g .memn;
+      costn = g .costn;
       gas = omega (arith, g .gas);
       rest0 = za 6;
       rest1 = zb 6;
@@ -165,14 +162,17 @@ module _ (v : ℕ → View) (rows : Rows inLast 0 v) where
   last-in = omega arith
 
   -- a constraint of 11 to 23, at row i
-  met : (i : ℕ) → i ≤ inLast → (k : Bool) → within (row i) k ≡ true → k ≡ true
-  met i h k e = of-within (row i) (rows .used i h) (rows .ooob i h) k e
+  met : {k : Bool} (i : ℕ) → i ≤ inLast → within (row i) k ≡ true → k ≡ true
+  met {k} i h e = of-within (row i) (rows .used i h) (rows .ooob i h) k e
 
-  met10 : (i : ℕ) (h : i ≤ inLast) → k10 (v i .one) (row i) ≡ true
-  met10 i h = of-used (row i) (rows .used i h) (k10 (v i .one) (row i)) (rows .each i h 9)
+  met11 : (i : ℕ) → i ≤ inLast → k11 (v i .one) (row i) ≡ true
+  met11 i h = met i h (rows .each i h 10)
 
-  met11 : (i : ℕ) (h : i ≤ inLast) → k11 (v i .one) (row i) ≡ true
-  met11 i h = met i h (k11 (v i .one) (row i)) (rows .each i h 10)
+  met12 : (i : ℕ) → i ≤ inLast → k12 (v i .one) (row i) ≡ true
+  met12 i h = met i h (rows .each i h 11)
+
+  met13 : (i : ℕ) → i ≤ inLast → k13 (v i .one) (row i) ≡ true
+  met13 i h = met i h (rows .each i h 12)
 
   at-last : z .ct ≡ inLast
   at-last = rows .ct inLast last-in
@@ -180,59 +180,55 @@ module _ (v : ℕ → View) (rows : Rows inLast 0 v) where
   small : (i : ℕ) → i ≤ inLast → Narrow (row i)
   small = narrow-at inLast 0 v rows
 
-  -- what the cycle keeps is as in its last row
-  keeps : (i : ℕ) → i ≤ inLast → (k : ℕ) → getD (kept (row i)) k 0 ≡ getD (kept z) k 0
-  keeps i h k = ap (λ (l : List ℕ). getD l k 0) (kept-last inLast 0 v rows i h)
-
   flag-at : (f : ℕ) → z .flag ≡ f → (i : ℕ) → i ≤ inLast → row i .flag ≡ f
-  flag-at f e i h = keeps i h 10 ∙ e
+  flag-at f e i h = as-last inLast 0 v rows i h 10 ∙ e
 
   ends : (z .acc1 ≡ z .end1) × (z .acc2 ≡ z .end2)
-  ends = says18 z (met inLast last-in (k18 z) (rows .each inLast last-in 17)) at-last
+  ends = says18 z (met inLast last-in (rows .each inLast last-in 17)) at-last
 
   bits : (z .comp ≤ 1) × (z .flag ≤ 1)
-  bits = says15 z (met inLast last-in (k15 z) (rows .each inLast last-in 14))
+  bits = says15 z (met inLast last-in (rows .each inLast last-in 14))
 
   comparison : Compared (z .comp) (z .dacc) (z .end1) (z .end2) (z .endmax)
   comparison =
       compared (z .comp) (z .dacc) (z .end1) (z .end2) (z .endmax) (bits .0)
-      (says16 z (met inLast last-in (k16 z) (rows .each inLast last-in 15)))
-      (says19 z (met inLast last-in (k19 z) (rows .each inLast last-in 18)) at-last)
+      (says16 z (met inLast last-in (rows .each inLast last-in 15)))
+      (says19 z (met inLast last-in (rows .each inLast last-in 18)) at-last)
 
   growth : Reached (z .flag) (z .eacc) t (z .mem)
   growth =
       rw (comparison .top) at (reached (z .flag) (z .eacc) (z .endmax) (z .mem) (bits .1)
-      (says20 z (met inLast last-in (k20 z) (rows .each inLast last-in 19)) at-last))
+      (says20 z (met inLast last-in (rows .each inLast last-in 19)) at-last))
 
   abbrev grown : Bool
   grown = ltb (z .mem) t
 
   fact17 : (z .flag ≡ 0 → Stayed z) × (z .flag ≡ 1 → Grown z)
-  fact17 = says17 z (met inLast last-in (k17 z) (rows .each inLast last-in 16))
+  fact17 = says17 z (met inLast last-in (rows .each inLast last-in 16))
 
   fact23 : (i : ℕ) → i ≤ inLast → (row i .flag ≡ 0 → zeros (quotients (row i)) ≡ true) × (row i .flag ≡ 1 → row i .ct ≡ 0 → row i .aux1 ≡ 0)
-  fact23 i h = says23 (row i) (met i h (k23 (row i)) (rows .each i h 22))
+  fact23 i h = says23 (row i) (met i h (rows .each i h 22))
 
   -- where FLAG=1
   module _ (f : z .flag ≡ 1) where
     fact14 : (i : ℕ) (h : i ≤ inLast) → (sumsUp (row i .ct) (v i .one .q1acc) (row i .q1byte) (row i .q1acc) ≡ true)
         × (sumsUp (row i .ct) (v i .one .q2acc) (row i .q2byte) (row i .q2acc) ≡ true)
-    fact14 i h = says14 (v i .one) (row i) (met i h (k14 (v i .one) (row i)) (rows .each i h 13)) (flag-at 1 f i h)
+    fact14 i h = says14 (v i .one) (row i) (met i h (rows .each i h 13)) (flag-at 1 f i h)
 
     divided : Divided (row 0) (row 1) z
     divided =
         let a : Cells = v inLast .two in
         let b : Cells = v inLast .one in
         rw (rows .two 0 (omega arith), rows .one 1 (omega arith)) at (says21-22 a b z
-        (met inLast last-in (k21 b z) (rows .each inLast last-in 20)) (met inLast last-in (k22 a b z) (rows .each inLast last-in 21)) at-last f)
+        (met inLast last-in (rows .each inLast last-in 20)) (met inLast last-in (rows .each inLast last-in 21)) at-last f)
 
     q2-fits : z .q2acc < 256 ^ 3
     q2-fits = sum-fits inLast 0 v rows (λ x. x .q2byte) (λ x. x .q2acc) (λ i h. small i h .q2byte) (λ i h. fact14 i h .1)
 
-    turned-grown : Turned true t (stateIn z) (row 0) (row 1) z
+    turned-grown : Turned true t (row 0) (row 1) z
     turned-grown =
         let first : 0 ≤ inLast = omega arith in
-        turned-true t (stateIn z) (row 0) (row 1) z (comparison .top) refl (small 1 (omega arith) .aux1) (small inLast last-in .aux2) q2-fits
+        turned-true t (row 0) (row 1) z (comparison .top) (small 1 (omega arith) .aux1) (small inLast last-in .aux2) q2-fits
         (fact17 .1 f) divided (fact23 0 first .1 (flag-at 1 f 0 first) (rows .ct 0 first))
 
   -- where FLAG=0
@@ -240,17 +236,17 @@ module _ (v : ℕ → View) (rows : Rows inLast 0 v) where
     unused : (i : ℕ) → i ≤ inLast → zeros (quotients (row i)) ≡ true
     unused i h = fact23 i h .0 (flag-at 0 f i h)
 
-    turned-stayed : Turned false t (stateIn z) (row 0) (row 1) z
+    turned-stayed : Turned false t (row 0) (row 1) z
     turned-stayed =
-        turned-false t (stateIn z) (row 0) (row 1) z refl refl (fact17 .0 f) (unused 0 (omega arith)) (unused 1 (omega arith)) (unused inLast last-in)
+        turned-false t (row 0) (row 1) z (fact17 .0 f) (unused 0 (omega arith)) (unused 1 (omega arith)) (unused inLast last-in)
 
-  -- the bytes of the words and of their square
+  -- the bytes of the words and of their square in row i
   record Quotients (g : Bool) (i : ℕ) : Type 0 where
     q1 : (row i .q1byte ≡ digitAt inLast (lastWord g t) i) × (row i .q1acc ≡ prefixAt inLast (lastWord g t) i)
     q2 : (row i .q2byte ≡ digitAt inLast (square g t .q2 % 256 ^ 3) i) × (row i .q2acc ≡ prefixAt inLast (square g t .q2 % 256 ^ 3) i)
 
   -- by the flag
-  turned-by : (g : Bool) → z .flag ≡ bit g → Turned g t (stateIn z) (row 0) (row 1) z
+  turned-by : (g : Bool) → z .flag ≡ bit g → Turned g t (row 0) (row 1) z
   turned-by true f = turned-grown f
   turned-by false f = turned-stayed f
 
@@ -258,12 +254,12 @@ module _ (v : ℕ → View) (rows : Rows inLast 0 v) where
   unfolding lastWord square
   quotients-by true f i h = record {
     q1 = pinned inLast 0 v rows (λ x. x .q1byte) (λ x. x .q1acc) (λ i h. small i h .q1byte) (λ i h. fact14 f i h .0)
-        (lastWord true t) (turned-grown f .q1acc) i h;
+        (turned-grown f .q1acc) i h;
     q2 = pinned inLast 0 v rows (λ x. x .q2byte) (λ x. x .q2acc) (λ i h. small i h .q2byte) (λ i h. fact14 f i h .1)
-        (square true t .q2 % 256 ^ 3) (turned-grown f .q2acc) i h;
+        (turned-grown f .q2acc) i h;
   }
   quotients-by false f i h =
-      let w : (k : ℕ) → getD (quotients (row i)) k 0 ≡ 0 = zeros-at (quotients (row i)) (unused f i h) in
+      let w = zeros-at (quotients (row i)) (unused f i h) in
       let digit : 0 ≡ digitAt inLast 0 i = sym (digit-zero inLast i) in
       let prefix : 0 ≡ prefixAt inLast 0 i = sym (prefix-zero inLast i) in
       record { q1 = (w 1 ∙ digit, w 2 ∙ prefix); q2 = (w 4 ∙ digit, w 5 ∙ prefix) }
@@ -272,34 +268,19 @@ module _ (v : ℕ → View) (rows : Rows inLast 0 v) where
   rows-are : (i : ℕ) → i ≤ inLast → row i ≡ inRow (leb (z .end2) (z .end1)) grown (row 0 .stamp) (stateIn z) (claimOf z) i
   unfolding inRow k10 k11 k12 k13
   rows-are i h =
-      let same : (k : ℕ) → getD (kept (row i)) k 0 ≡ getD (kept z) k 0 = keeps i h in
+      let same = as-last inLast 0 v rows i h in
       let c = comparison in
       let u = turned-by grown (growth .flag) in
       let q = quotients-by grown (growth .flag) i h in
-      let one = pinned inLast 0 v rows (λ x. x .byte1) (λ x. x .acc1) (λ i h. small i h .byte1) met10 (z .end1) (ends .0) i h in
-      let two = pinned inLast 0 v rows (λ x. x .byte2) (λ x. x .acc2) (λ i h. small i h .byte2) met11 (z .end2) (ends .1) i h in
-      let d = pinned inLast 0 v rows (λ x. x .dbyte) (λ x. x .dacc) (λ i h. small i h .dbyte)
-      (λ i h. met i h (k12 (v i .one) (row i)) (rows .each i h 11)) (apart (leb (z .end2) (z .end1)) (z .end1) (z .end2)) (c .apart) i h in
-      let e = pinned inLast 0 v rows (λ x. x .ebyte) (λ x. x .eacc) (λ i h. small i h .ebyte)
-      (λ i h. met i h (k13 (v i .one) (row i)) (rows .each i h 12)) (above grown t (z .mem)) (growth .above) i h in
-      let stamp = rows .stamp i h in
-      let ooob = rows .ooob i h in
-      let ct = rows .ct i h in
-      let memn = same 4 ∙ u .memn in
-      let costn = same 6 ∙ u .costn in
-      let gas = same 7 ∙ u .gas in
-      let comp = same 8 ∙ c .comp in
-      let endmax = same 9 ∙ c .top in
-      let flag = same 10 ∙ growth .flag in
-      let q1 = same 11 ∙ u .q1 in
-      let q2 = same 12 ∙ u .q2 in
-      let aux1 = in-rows (λ i. row i .aux1) _ _ _ (u .rest0) (u .rest1) (u .rest2) i h in
-      let aux2 = in-rows (λ i. row i .aux2) _ _ _ (u .part0) (u .part1) (u .part2) i h in
+      let one = pinned inLast 0 v rows (λ x. x .byte1) (λ x. x .acc1) (λ i h. small i h .byte1) (met10 inLast 0 v rows) (ends .0) i h in
+      let two = pinned inLast 0 v rows (λ x. x .byte2) (λ x. x .acc2) (λ i h. small i h .byte2) met11 (ends .1) i h in
+      let d = pinned inLast 0 v rows (λ x. x .dbyte) (λ x. x .dacc) (λ i h. small i h .dbyte) met12 (c .apart) i h in
+      let e = pinned inLast 0 v rows (λ x. x .ebyte) (λ x. x .eacc) (λ i h. small i h .ebyte) met13 (growth .above) i h in
       λ j. record {
-        stamp = stamp j;
+        stamp = rows .stamp i h j;
         cn = same 0 j;
-        ooob = ooob j;
-        ct = ct j;
+        ooob = rows .ooob i h j;
+        ct = rows .ct i h j;
         end1 = same 1 j;
         end2 = same 2 j;
         byte1 = one .0 j;
@@ -307,42 +288,42 @@ module _ (v : ℕ → View) (rows : Rows inLast 0 v) where
         acc1 = one .1 j;
         acc2 = two .1 j;
         mem = same 3 j;
-        memn = memn j;
+        memn = (same 4 ∙ u .memn) j;
         cost = same 5 j;
-        costn = costn j;
-        gas = gas j;
-        comp = comp j;
+        costn = (same 6 ∙ u .costn) j;
+        gas = (same 7 ∙ u .gas) j;
+        comp = (same 8 ∙ c .comp) j;
         dbyte = d .0 j;
         dacc = d .1 j;
-        endmax = endmax j;
-        flag = flag j;
+        endmax = (same 9 ∙ c .top) j;
+        flag = (same 10 ∙ growth .flag) j;
         ebyte = e .0 j;
         eacc = e .1 j;
-        q1 = q1 j;
+        q1 = (same 11 ∙ u .q1) j;
         q1byte = q .q1 .0 j;
         q1acc = q .q1 .1 j;
-        q2 = q2 j;
+        q2 = (same 12 ∙ u .q2) j;
         q2byte = q .q2 .0 j;
         q2acc = q .q2 .1 j;
-        aux1 = aux1 j;
-        aux2 = aux2 j;
+        aux1 = in-rows (λ i. row i .aux1) _ _ _ (u .rest0) (u .rest1) (u .rest2) i h j;
+        aux2 = in-rows (λ i. row i .aux2) _ _ _ (u .part0) (u .part1) (u .part2) i h j;
       }
 
   in-bounds : inBounds (claimOf z) ≡ true
   unfolding inBounds k10 k11
   in-bounds =
-      let one : z .acc1 < 256 ^ 3 = sum-fits inLast 0 v rows (λ x. x .byte1) (λ x. x .acc1) (λ i h. small i h .byte1) met10 in
+      let one : z .acc1 < 256 ^ 3 = sum-fits inLast 0 v rows (λ x. x .byte1) (λ x. x .acc1) (λ i h. small i h .byte1) (met10 inLast 0 v rows) in
       let two : z .acc2 < 256 ^ 3 = sum-fits inLast 0 v rows (λ x. x .byte2) (λ x. x .acc2) (λ i h. small i h .byte2) met11 in
       both-intro (ltb (z .end1) bound) (ltb (z .end2) bound)
       (lt-ltb (z .end1) bound (omega (arith, ends .0))) (lt-ltb (z .end2) bound (omega (arith, ends .1)))
 
-  -- and so those of its claim at the state before, as its first row shows them
+  -- the claim that the first row shows is in bounds
   pub in-claim : inBounds (claimOf (row 0)) ≡ true
-  in-claim = ap inBounds (sym (claim-kept z (row 0) (kept-first inLast 0 v rows inLast last-in))) ∙ in-bounds
+  in-claim = as-first inLast 0 v rows (λ s c. inBounds c ≡ true) in-bounds
 
+  -- and the rows are those of that claim, at the state before it that the first row shows
   pub in-unique : (i : ℕ) → i ≤ inLast → row i ≡ rowOf (row 0 .stamp) (stateIn (row 0)) (claimOf (row 0)) i
   unfolding rowOf
   in-unique i h =
-      let same : kept z ≡ kept (row 0) = kept-first inLast 0 v rows inLast last-in in
-      let f : State → Claim → Cells = λ s c. inRow (leb (c .end2) (c .end1)) (ltb (s .mem) (top c)) (row 0 .stamp) s c i in
-      rw in-claim (rows-are i h ∙ ap₂ f (state-kept z (row 0) same) (claim-kept z (row 0) same))
+      rw in-claim (as-first inLast 0 v rows
+      (λ s c. row i ≡ inRow (leb (c .end2) (c .end1)) (ltb (s .mem) (top c)) (row 0 .stamp) s c i) (rows-are i h))

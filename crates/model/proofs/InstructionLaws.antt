@@ -8,7 +8,7 @@ use native.Mathlib.Nat.{add-zero}
 use native.Mathlib.Omega.{arith}
 use borrow.Author.Tests.{le-leb, lt-leb}
 use lib.Dec.{leb}
-use lib.ListN.{length, getD, take, drop, replicate, length-append, length-replicate, length-take, length-drop}
+use lib.ListN.{length, getD, take, drop, length-take, length-drop}
 use lib.Seq.{take-length, getD-take, getD-drop}
 use Rattle.number.specs.Whole.{bound}
 use Rattle.number.proofs.TestLaws.{both-intro}
@@ -16,17 +16,18 @@ use Rattle.gas.specs.Gas.{words, cost}
 use Rattle.model.specs.Alone.{reached, ownClaims, rowAfter, Alone, ByPaper, SameCharge}
 use Rattle.model.specs.Columns.{Cells, emptyRow, rowBytes, rowAt, rowsOf, bytesOf}
 use Rattle.model.specs.Constraints.{lastCt}
-use Rattle.model.specs.Cycles.{Cycle, Claim, claimOf, rowsIn, cycles, instruction, isInstruction, part, instructionPart, instructionClaim, nextRow, lastState, step}
+use Rattle.model.specs.Cycles.{Cycle, rowsIn, cycles, Claim, claimOf, instruction, part, isInstruction}
+use Rattle.model.specs.Cycles.{instructionPart, instructionClaim, lastState, nextRow, step}
 use Rattle.model.specs.Promises.{Valid, Fits, Accepted, emptyIn, claimsIn, Carries}
 use Rattle.model.specs.State.{Context, fresh}
 use Rattle.model.specs.Trace.{inBounds, lastOf, cycleOf, cyclesOf, afterClaims, trace, traceBytes}
 use Rattle.model.proofs.AloneLaws.{after-reached, alone-same, marks, row-alone, out-adds-nothing, row-by-paper}
 use Rattle.model.proofs.ExactlyOne.{rows-own, accepted-own, trace-carries}
-use Rattle.model.proofs.JoinLaws.{length-cycle, bytes-snoc, trace-cut, bytes-cut}
+use Rattle.model.proofs.JoinLaws.{length-cycle, length-trace, bytes-snoc, cut-le, bytes-cut}
 use Rattle.model.proofs.LastState.{last-trace}
 use Rattle.model.proofs.ReadBack.{claim-of-row, last-of-row, instructions-trace, instruction-trace, rows-of-instruction, cycle-end}
-use Rattle.model.proofs.RowBytes.{length-bytes, bytes-part}
-use Rattle.model.proofs.TableOf.{length-table, getD-table}
+use Rattle.model.proofs.RowBytes.{length-rows, row-of-rows, length-bytes, bytes-part}
+use Rattle.model.proofs.TableOf.{getD-table}
 
 valid-take : (k : ℕ) (cs : List Claim) → Valid cs → Valid (take k cs)
 valid-take zero cs v = tt
@@ -35,10 +36,7 @@ valid-take (suc k) (c ∷ cs) v = (v .0, valid-take k cs (v .1))
 
 -- fewer claims fit too
 fits-take : (n k : ℕ) (cs : List Claim) → Fits n cs → Fits n (take k cs)
-fits-take n k cs f =
-    let shorter : length (trace n (take k cs)) ≤ length (trace n cs) =
-    omega (arith, ap length (trace-cut n k cs), length-take (length (trace n (take k cs))) (trace n cs)) in
-    record { some = f .some; valid = valid-take k cs (f .valid); rows = omega (arith, f .rows) }
+fits-take n k cs f = record { some = f .some; valid = valid-take k cs (f .valid); rows = omega (arith, f .rows, cut-le n k cs) }
 
 module _ (l : List ℕ) (a : Accepted l) where
   abbrev n : ℕ
@@ -47,11 +45,15 @@ module _ (l : List ℕ) (a : Accepted l) where
   abbrev cs : List Claim
   cs = claimsIn l
 
+  -- it is the trace of its own empty rows and claims, as bytes and in whatever is read off its rows
   own-bytes : l ≡ traceBytes n cs
   own-bytes = accepted-own l a .bytes
 
-  own-rows : rowsOf l ≡ trace n cs
-  own-rows = rows-own l a
+  read : {A : Type 0} (f : List Cells → A) → f (rowsOf l) ≡ f (trace n cs)
+  read f = ap f (rows-own l a)
+
+  rows-count : length l / rowBytes ≡ length (trace n cs)
+  rows-count = sym (length-rows l) ∙ read length
 
   -- ---- instruction suc k
   module _ (k : ℕ) (h : k < length cs) where
@@ -69,11 +71,20 @@ module _ (l : List ℕ) (a : Accepted l) where
     pub claim-is : (d : Claim) → c ≡ getD cs k d
     unfolding instructionClaim
     claim-is d =
-        ap (λ (rows : List Cells). claimOf (instruction rows (suc k) .row)) own-rows
+        read (λ rows. claimOf (instruction rows (suc k) .row))
         ∙ ap (λ (y : Cycle). claimOf (y .row)) (instruction-trace n k cs d h) ∙ claim-of-row (suc k) _ (getD cs k d) 0
 
     cycle-is : cycle ≡ record { first = length (trace n done); row = rowAfter (suc k) done c 0 }
-    cycle-is = rw (← claim-is c) at (ap (λ (rows : List Cells). instruction rows (suc k)) own-rows ∙ instruction-trace n k cs c h)
+    cycle-is = rw (← claim-is c) at (read (λ rows. instruction rows (suc k)) ∙ instruction-trace n k cs c h)
+
+    first-is : cycle .first ≡ length (trace n done)
+    first-is = ap (λ (y : Cycle). y .first) cycle-is
+
+    first-row-is : cycle .row ≡ rowAfter (suc k) done c 0
+    first-row-is = ap (λ (y : Cycle). y .row) cycle-is
+
+    rows-in : rowsIn cycle ≡ suc (lastOf c)
+    rows-in = ap suc (ap (λ (x : Cells). lastCt (x .ooob)) first-row-is ∙ last-of-row (suc k) (afterClaims fresh done (c .context)) c 0)
 
     rows-of : take (suc (lastOf c)) (drop (length (trace n done)) (trace n cs)) ≡ cycleOf (suc k) (afterClaims fresh done (c .context)) c
     rows-of = rw (← claim-is c) at (rows-of-instruction n k cs c h)
@@ -92,42 +103,31 @@ module _ (l : List ℕ) (a : Accepted l) where
     is-there : isInstruction (rowsOf l) (suc k) ≡ true
     unfolding isInstruction
     is-there =
-        let m : length (cycles (rowsOf l)) ≡ length cs = ap (λ (rows : List Cells). length (cycles rows)) own-rows ∙ instructions-trace n cs in
-        both-intro (leb 1 (suc k)) (leb (suc k) (length (cycles (rowsOf l)))) (le-leb 1 (suc k) (omega arith)) (le-leb (suc k) (length (cycles (rowsOf l))) (omega arith))
+        let m : length (cycles (rowsOf l)) ≡ length cs = read (λ rows. length (cycles rows)) ∙ instructions-trace n cs in
+        both-intro _ _ (le-leb 1 (suc k) (omega arith)) (le-leb (suc k) (length (cycles (rowsOf l))) (omega arith))
 
-    rows-in : rowsIn cycle ≡ suc (lastOf c)
-    rows-in = ap suc (ap (λ (y : Cycle). lastCt (y .row .ooob)) cycle-is ∙ last-of-row (suc k) (afterClaims fresh done (c .context)) c 0)
-
-    -- its rows are a part of the trace itself
     part-there : part l (cycle .first) (rowsIn cycle) ≡ instructionPart l (suc k)
     unfolding instructionPart
     part-there = rw is-there
 
+    -- its rows, as a part of the trace itself, are the cycle of its claim after the claims before it
     pub part-is : instructionPart l (suc k) ≡ bytesOf (cycleOf (suc k) (afterClaims fresh done (c .context)) c)
     unfolding part traceBytes
     part-is =
         let p : ℕ = length (trace n done) in
         let m : ℕ = suc (lastOf c) in
-        sym part-there ∙ rw rows-in (ap (λ (y : Cycle). take (m * rowBytes) (drop (y .first * rowBytes) l)) cycle-is
-        ∙ ap (λ (b : List ℕ). take (m * rowBytes) (drop (p * rowBytes) b)) own-bytes ∙ bytes-part (trace n cs) p m inside ∙ ap bytesOf rows-of)
-
-    row-of-list : (j : ℕ) → j < length (trace n cs) → rowAt l j ≡ getD (trace n cs) j emptyRow
-    unfolding rowsOf
-    row-of-list j m =
-        let e : length (rowsOf l) ≡ length l / rowBytes = length-table (length l / rowBytes) (rowAt l) in
-        sym (getD-table (length l / rowBytes) (rowAt l) j emptyRow (omega (arith, ap length own-rows)))
-        ∙ ap (λ (rows : List Cells). getD rows j emptyRow) own-rows
+        sym part-there ∙ rw (rows-in, first-is) (ap (λ (b : List ℕ). take (m * rowBytes) (drop (p * rowBytes) b)) own-bytes
+        ∙ bytes-part (trace n cs) p m inside ∙ ap bytesOf rows-of)
 
     -- each of its rows is that of its claim after the claims before it
     pub row-is : (i : ℕ) → i ≤ lastOf c → rowAt l (cycle .first + i) ≡ rowAfter (suc k) done c i
     unfolding cycleOf
     row-is i m =
         let p : ℕ = length (trace n done) in
-        let f : cycle .first ≡ p = ap (λ (y : Cycle). y .first) cycle-is in
         let t : getD (take (suc (lastOf c)) (drop p (trace n cs))) i emptyRow ≡ getD (trace n cs) (p + i) emptyRow =
         getD-take (suc (lastOf c)) (drop p (trace n cs)) i emptyRow (omega arith) ∙ getD-drop p (trace n cs) i emptyRow in
-        ap (λ (q : ℕ). rowAt l (q + i)) f ∙ row-of-list (p + i) (omega (arith, inside)) ∙ sym t
-        ∙ ap (λ (rows : List Cells). getD rows i emptyRow) rows-of ∙ getD-table (suc (lastOf c)) (rowAfter (suc k) done c) i emptyRow (omega arith)
+        rw first-is (row-of-rows l (p + i) (omega (arith, inside, read length)) ∙ read (λ rows. getD rows (p + i) emptyRow) ∙ sym t
+        ∙ ap (λ (rows : List Cells). getD rows i emptyRow) rows-of ∙ getD-table (suc (lastOf c)) (rowAfter (suc k) done c) i emptyRow (omega arith))
 
     module _ (i : ℕ) (m : i ≤ lastOf c) where
       abbrev row : Cells
@@ -155,24 +155,20 @@ module _ (l : List ℕ) (a : Accepted l) where
 
   -- the next row after k instructions is as many rows on as their trace has
   next-is : (k : ℕ) → k ≤ length cs → nextRow (rowsOf l) k ≡ length (trace n (take k cs))
-  unfolding nextRow trace cyclesOf
-  next-is zero h = sym (length-append (replicate n emptyRow) [] ∙ ap (λ (m : ℕ). m + 0) (length-replicate n emptyRow) ∙ add-zero n)
-  next-is (suc k) h = ap (λ (rows : List Cells). instruction rows (suc k) .first + rowsIn (instruction rows (suc k))) own-rows ∙ sym (cycle-end n k cs h)
-
-  rows-count : length l / rowBytes ≡ length (trace n cs)
-  unfolding rowsOf
-  rows-count = sym (length-table (length l / rowBytes) (rowAt l)) ∙ ap length own-rows
+  unfolding nextRow cyclesOf
+  next-is zero h = rw (length-trace, add-zero)
+  next-is (suc k) h = read (λ rows. instruction rows (suc k) .first + rowsIn (instruction rows (suc k))) ∙ sym (cycle-end n k cs h)
 
   -- the step of a walker that stands there gives the rows of instruction suc k, and moves past them
-  pub step-is : (k : ℕ) (h : k < length cs) → step l (nextRow (rowsOf l) k) ≡ record { part = instructionPart l (suc k); next = nextRow (rowsOf l) (suc k) }
+  pub step-is : (k : ℕ) (h : k < length cs)
+      → step l (nextRow (rowsOf l) k) ≡ record { part = instructionPart l (suc k); next = nextRow (rowsOf l) (suc k) }
   unfolding step nextRow
   step-is k h =
       let y : Cycle = cycle k h in
-      let first : nextRow (rowsOf l) k ≡ y .first = next-is k (omega arith) ∙ sym (ap (λ (y : Cycle). y .first) (cycle-is k h)) in
-      let row : rowAt l (y .first) ≡ y .row =
-      rw add-zero at (row-is k h 0 (omega arith)) ∙ sym (ap (λ (y : Cycle). y .row) (cycle-is k h)) in
+      let first : nextRow (rowsOf l) k ≡ y .first = next-is k (omega arith) ∙ sym (first-is k h) in
+      let row : rowAt l (y .first) ≡ y .row = rw add-zero at (row-is k h 0 (omega arith)) ∙ sym (first-row-is k h) in
       let fits : leb (y .first + rowsIn y) (length l / rowBytes) ≡ true =
-      le-leb (y .first + rowsIn y) (length l / rowBytes) (omega (arith, inside k h, rows-in k h, rows-count, ap (λ (y : Cycle). y .first) (cycle-is k h))) in
+      le-leb _ (length l / rowBytes) (omega (arith, inside k h, rows-in k h, rows-count, first-is k h)) in
       rw (first, row, fits, part-there k h)
 
   -- after the last instruction it gives an empty part and does not move
@@ -180,11 +176,13 @@ module _ (l : List ℕ) (a : Accepted l) where
   unfolding step
   step-end =
       let q : ℕ = nextRow (rowsOf l) (length cs) in
-      let last : q ≡ length l / rowBytes = next-is (length cs) (omega arith) ∙ ap (λ (ds : List Claim). length (trace n ds)) (take-length cs) ∙ sym rows-count in
+      let last : q ≡ length l / rowBytes = next-is (length cs) (omega arith) ∙ rw (take-length cs) (sym rows-count) in
       let over : leb (q + suc (lastCt (rowAt l q .ooob))) (length l / rowBytes) ≡ false = lt-leb _ (length l / rowBytes) (omega arith) in
       rw over
 
-  -- the trace cut there is the trace of the first k claims, and is accepted with just these
+  -- ---- cut and joined
+
+  -- the trace cut there is the trace of the first k claims
   pub cut-is : (k : ℕ) → k ≤ length cs → take (nextRow (rowsOf l) k * rowBytes) l ≡ traceBytes n (take k cs)
   unfolding traceBytes
   cut-is k h =
@@ -192,14 +190,16 @@ module _ (l : List ℕ) (a : Accepted l) where
       length-bytes (trace n (take k cs)) ∙ ap (λ (m : ℕ). m * rowBytes) (sym (next-is k h)) in
       rw (← e) (ap (take (length (traceBytes n (take k cs)))) own-bytes ∙ bytes-cut n k cs)
 
+  -- and is accepted with just these
   pub cut-carries : (k : ℕ) → k ≤ length cs → Carries n (take k cs) (take (nextRow (rowsOf l) k * rowBytes) l)
   cut-carries k h = rw (cut-is k h) (trace-carries n (take k cs) (fits-take n k cs (accepted-own l a .fits)))
 
-  -- one claim more: the trace followed by that claim's cycle, which is accepted with just these where they fit
+  -- the trace with one claim more is the trace followed by that claim's cycle
   pub join-is : (c : Claim) → traceBytes n (cs ++ (c ∷ [])) ≡ l ++ bytesOf (cycleOf (suc (length cs)) (afterClaims fresh cs (c .context)) c)
   join-is c =
       bytes-snoc n cs c ∙ ap (λ (m : List ℕ). m ++ bytesOf (cycleOf (suc (length cs)) (afterClaims fresh cs (c .context)) c)) (sym own-bytes)
 
+  -- and is accepted with just these claims, where they fit
   pub join-carries : (c : Claim) → Fits n (cs ++ (c ∷ []))
       → Carries n (cs ++ (c ∷ [])) (l ++ bytesOf (cycleOf (suc (length cs)) (afterClaims fresh cs (c .context)) c))
   join-carries c f = rw (← join-is c) (trace-carries n (cs ++ (c ∷ [])) f)
@@ -208,10 +208,10 @@ module _ (l : List ℕ) (a : Accepted l) where
 
   -- the state of a context's last cycle is that of its in-bounds claims: what constraint 9 asks of a next instruction of that context
   pub last-state-is : (x : Context) → lastState (rowsOf l) x .state ≡ record { mem = reached x cs; cost = cost (words (reached x cs)) }
-  last-state-is x = ap (λ (rows : List Cells). lastState rows x .state) own-rows ∙ last-trace n cs x ∙ after-reached cs x
+  last-state-is x = read (λ rows. lastState rows x .state) ∙ last-trace n cs x ∙ after-reached cs x
 
--- in any two accepted traces, instructions with one claim and the same earlier in-bounds claims of its context have the same mark, words and gas
 module _ (l m : List ℕ) (a : Accepted l) (b : Accepted m) (k j : ℕ) (h : k < length (claimsIn l)) (g : j < length (claimsIn m)) where
+  -- in any two accepted traces, instructions with one claim and the same earlier in-bounds claims of its context have the same mark, words and gas
   pub own-claims-suffice : instructionClaim l (suc k) ≡ instructionClaim m (suc j)
       → ownClaims (instructionClaim l (suc k) .context) (take k (claimsIn l)) ≡ ownClaims (instructionClaim l (suc k) .context) (take j (claimsIn m))
       → (i : ℕ) → i ≤ lastOf (instructionClaim l (suc k))

@@ -12,11 +12,12 @@ use Rattle.model.specs.Verdict.{Judgement, meet, break, andRow, judged}
 
 -- ---- the first test of a list that fails
 
--- it stands at place m
+-- the first that fails stands at place m
 pub record FirstFails (ts : List Bool) (m : ℕ) : Type 0 where
   pub fails : getD ts m true ≡ false
   pub lower : (j : ℕ) → j < m → getD ts j true ≡ true
 
+-- the number 0 says that all pass
 pub zero-pass : (k : ℕ) (ts : List Bool) → firstFailed (suc k) ts ≡ 0 → (j : ℕ) → getD ts j true ≡ true
 unfolding firstFailed
 zero-pass k [] e j = refl
@@ -24,6 +25,7 @@ zero-pass k (true ∷ ts) e zero = refl
 zero-pass k (true ∷ ts) e (suc j) = zero-pass (suc k) ts e j
 zero-pass k (false ∷ ts) e j = cc
 
+-- where all pass, it is 0
 pub pass-zero : (k : ℕ) (ts : List Bool) → ((j : ℕ) → j < length ts → getD ts j true ≡ true) → firstFailed k ts ≡ 0
 unfolding firstFailed
 pass-zero k [] p = refl
@@ -37,6 +39,7 @@ first-cons ts m f = record { fails = f .fails; lower = lower }
     lower zero h = refl
     lower (suc j) h = f .lower j (le-of-suc-le-suc h)
 
+-- another number says, counted from k, which is the first that fails
 pub some-fails : (k v : ℕ) (ts : List Bool) → firstFailed k ts ≡ v → 1 ≤ v → (m : ℕ) × (v ≡ k + m) × FirstFails ts m
 unfolding firstFailed
 some-fails k v [] e h = absurd (omega arith)
@@ -45,6 +48,7 @@ some-fails k v (true ∷ ts) e h =
     (suc m, omega arith, first-cons ts m f)
 some-fails k v (false ∷ ts) e h = (0, omega arith, record { fails = refl; lower = λ j l. absurd (omega arith) })
 
+-- where one is the first that fails, it is the number
 pub fails-some : (k m : ℕ) (ts : List Bool) → FirstFails ts m → firstFailed k ts ≡ k + m
 unfolding firstFailed
 fails-some k m [] f = cc (f .fails)
@@ -54,6 +58,7 @@ fails-some k (suc m) (true ∷ ts) f =
 fails-some k zero (false ∷ ts) f = omega arith
 fails-some k (suc m) (false ∷ ts) f = cc (f .lower 0 (omega arith))
 
+-- a test that fails is one of the list
 pub fails-in : (m : ℕ) (ts : List Bool) → getD ts m true ≡ false → m < length ts
 fails-in m [] e = absurd (true≢false e)
 fails-in zero (t ∷ ts) e = omega arith
@@ -104,6 +109,7 @@ module _ (first : ℕ → ℕ) where
     pub number : first i ≡ k
     pub earlier : judged first i ≡ meet
 
+  -- the judgement of m rows names row i and constraint k exactly if row i is one of them and they stop there
   pub judged-stops : (m i k : ℕ) → (judged first m ≡ break i k) ↔ ((i < m) × Stops i k)
   unfolding judged
   judged-stops m i k = (there m, back m)
@@ -112,9 +118,7 @@ module _ (first : ℕ → ℕ) where
       there zero e = absurd (meet≢break i k e)
       there (suc m) e =
           ⊎-elim
-          (λ d.
-          let (h, s) = there m d in
-          (omega arith, s))
+          (λ d. (omega (arith, there m d .0), there m d .1))
           (λ (d, p, q, h). (omega arith, record { from = h; number = rw (← p) q; earlier = rw (← p) d }))
           (and-break (judged first m) m (first m) i k e)
 

@@ -15,12 +15,13 @@ use Rattle.model.specs.Promises.{AllHold}
 use Rattle.model.specs.State.{Context, State, sameContext, contextOf, stateOf, put}
 use Rattle.model.specs.Tests.{pick}
 use Rattle.model.specs.Verdict.{rowBefore, passed, before}
+use Rattle.model.proofs.ConstraintFacts.{says8}
 use Rattle.model.proofs.CycleRows.{claim-kept, left-kept}
 use Rattle.model.proofs.LastState.{look-snoc}
 use Rattle.model.proofs.ReadBack.{cycles-join}
 use Rattle.model.proofs.StepLaws.{same-stamp}
 use Rattle.model.proofs.TableOf.{table-snoc}
-use Rattle.model.proofs.TestFacts.{implies-use, equal-are}
+use Rattle.model.proofs.TestFacts.{implies-use, pick-second}
 
 -- ---- the latest cycle, with one row more
 
@@ -42,10 +43,6 @@ passed-own : (states : Context → State) (y : Cells) (x : Context) → inUse y 
 unfolding passed put
 passed-own states y x u c = rw (u, c)
 
-pick-same : (t : Bool) (a b : State) → (t ≡ true → b ≡ a) → pick t a b ≡ b
-pick-same true a b f = sym (f refl)
-pick-same false a b f = refl
-
 module _ (r : ℕ → Cells) (n : ℕ) where
   -- a row that repeats the row before finds the state that it leaves
   before-repeated : (i : ℕ) → inUse (rowBefore r i) ≡ true → kept (r i) ≡ kept (rowBefore r i)
@@ -60,12 +57,13 @@ module _ (r : ℕ → Cells) (n : ℕ) where
   -- so does every row of a cycle but the first
   before-inside : (i : ℕ) → AllHold r n i → inUse (r i) ≡ true → eqb (r i .ct) 0 ≡ false
       → (x : Context) → sameContext (contextOf (r i)) x ≡ true → before r i x ≡ stateOf (r i)
-  unfolding constraint k4 k8 inUse
+  unfolding constraint k4 inUse
   before-inside i h u z =
       let b : Cells = rowBefore r i in
-      let stamp : r i .stamp ≡ b .stamp = same-stamp _ _ _ _ (eqb-false (r i .ct) 0 z) (h 4 (omega arith) (omega arith)) in
+      let inside = eqb-false (r i .ct) 0 z in
+      let stamp : r i .stamp ≡ b .stamp = same-stamp _ _ _ _ inside (h 4 (omega arith) (omega arith)) in
       let keeps : k8 b (r i) ≡ true = implies-use (inUse (r i)) _ (h 8 (omega arith) (omega arith)) u in
-      before-repeated i (ap (λ (s : ℕ). not (eqb s 0)) (sym stamp) ∙ u) (equal-are (kept (r i)) (kept b) (implies-use _ _ keeps (ap not z)))
+      before-repeated i (ap (λ (s : ℕ). not (eqb s 0)) (sym stamp) ∙ u) (says8 b (r i) keeps inside)
 
   -- a row that holds changes a state only where it starts a cycle
   passed-row : (i : ℕ) → AllHold r n i → (x : Context)
@@ -77,7 +75,7 @@ module _ (r : ℕ → Cells) (n : ℕ) where
           → pick t (put (before r i) (contextOf (r i)) (stateOf (r i))) (before r i) x
           ≡ pick (t && u && sameContext (contextOf (r i)) x) (stateOf (r i)) (before r i x)
       go true true e z = refl
-      go true false e z = pick-same (sameContext (contextOf (r i)) x) (stateOf (r i)) (before r i x) (before-inside i h e z x)
+      go true false e z = pick-second (sameContext (contextOf (r i)) x) (stateOf (r i)) (before r i x) (before-inside i h e z x)
       go false u e z = refl
 
   -- ---- the two agree
@@ -87,6 +85,7 @@ module _ (r : ℕ → Cells) (n : ℕ) where
   unfolding before
   latest-next i h x e = rw (table-snoc i r, last-snoc, ← e) (passed-row i h x)
 
+  -- where all constraints hold below row i, the state before it is that of the latest earlier cycle with the context; 0, 0 if there is none
   pub latest-cycle : (i : ℕ) → ((j : ℕ) → j < i → AllHold r n j) → (x : Context) → before r i x ≡ lastState (table i r) x .state
   unfolding before table lastState cyclesFrom look
   latest-cycle zero h x = refl

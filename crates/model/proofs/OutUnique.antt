@@ -1,70 +1,68 @@
 -- The rows of an out-of-bounds cycle that meets the constraints are those of its claim.
 use Prim.Native.Nat.{ℕ, _+_, _-_, _≤_}
-use mathlib.Core.Bool.{Bool, true, false, _&&_}
-use mathlib.Core.List.{List}
-use mathlib.Core.Path.{_≡_, refl, sym, _∙_, ap, ap₂}
+use mathlib.Core.Bool.{Bool, true, false}
+use mathlib.Core.Path.{_≡_, refl, _∙_}
 use native.Mathlib.Omega.{arith}
-use borrow.Author.Tests.{leb-true, le-ltb}
-use lib.Dec.{leb, ltb}
-use lib.ListN.{getD}
+use lib.Dec.{leb}
 use Rattle.number.specs.Whole.{bound}
 use Rattle.model.specs.Columns.{Cells, fromComp, cellsIn}
-use Rattle.model.specs.Constraints.{outLast, beyond, View, kept, k10, k24, k25}
+use Rattle.model.specs.Constraints.{outLast, beyond, View, k10}
 use Rattle.model.specs.Cycles.{Claim, claimOf}
-use Rattle.model.specs.State.{State}
-use Rattle.model.specs.Tests.{pick}
-use Rattle.model.specs.Trace.{inBounds, beyondEnd, outRow, rowOf}
+use Rattle.model.specs.Trace.{inBounds, top, beyondEnd, outRow, rowOf}
 use Rattle.model.proofs.ConstraintFacts.{Carried, says24, says25}
-use Rattle.model.proofs.CycleRows.{narrow-at, pinned, Rows, stateIn, claim-kept, state-kept, kept-first, kept-last}
-use Rattle.model.proofs.RowFacts.{of-used, of-beyond}
-use Rattle.model.proofs.TestFacts.{zeros-at}
+use Rattle.model.proofs.CycleRows.{Rows, stateIn, as-last, as-first, narrow-at, met10, pinned}
+use Rattle.model.proofs.RowFacts.{of-beyond}
+use Rattle.model.proofs.StateLaws.{top-lt}
+use Rattle.model.proofs.TestFacts.{pick-has, zeros-at}
+
+beyond-le-top : (c : Claim) → beyondEnd c ≤ top c
+unfolding beyondEnd
+beyond-le-top c = pick-has (λ n. n ≤ top c) (leb bound (c .end1)) (λ e. omega arith) (λ e. omega arith)
 
 -- an end that is at least the bound, by a sum, puts the claim out of bounds
-out-by : (c : Claim) (d : ℕ) (g h : Bool) → leb bound (c .end1) ≡ g → ltb (c .end1) bound ≡ h
-    → d + bound ≡ pick g (c .end1) (c .end2) → (h && ltb (c .end2) bound) ≡ false
-out-by c d true h e f s = ap (λ (b : Bool). b && ltb (c .end2) bound) (sym f ∙ le-ltb (c .end1) bound (leb-true bound (c .end1) e))
-out-by c d false true e f s = le-ltb (c .end2) bound (omega arith)
-out-by c d false false e f s = refl
+out-by : (c : Claim) (d : ℕ) → d + bound ≡ beyondEnd c → inBounds c ≡ false
+out-by c d e = go (inBounds c) refl
+  where
+    go : (t : Bool) → inBounds c ≡ t → t ≡ false
+    go true i = absurd (omega (arith, top-lt c i, beyond-le-top c))
+    go false i = refl
 
 module _ (v : ℕ → View) (rows : Rows outLast 1 v) where
   abbrev row : ℕ → Cells
   row i = v i .this
 
+  -- the last row
   abbrev z : Cells
   z = row outLast
 
   last-in : outLast ≤ outLast
   last-in = omega arith
 
-  met : (i : ℕ) → i ≤ outLast → (k : Bool) → beyond (row i) k ≡ true → k ≡ true
-  met i h k e = of-beyond (row i) (rows .used i h) (rows .ooob i h) k e
+  -- constraint 24 or 25, at row i
+  met : {k : Bool} (i : ℕ) → i ≤ outLast → beyond (row i) k ≡ true → k ≡ true
+  met {k} i h e = of-beyond (row i) (rows .used i h) (rows .ooob i h) k e
 
   carried : (i : ℕ) → i ≤ outLast → Carried (row i)
-  carried i h = says24 (row i) (met i h (k24 (row i)) (rows .each i h 23))
+  carried i h = says24 (row i) (met i h (rows .each i h 23))
 
   -- how far the end is beyond the bound
   beyond-by : z .acc1 + bound ≡ beyondEnd (claimOf z)
-  beyond-by = says25 z (met outLast last-in (k25 z) (rows .each outLast last-in 24)) (rows .ct outLast last-in)
+  beyond-by = says25 z (met outLast last-in (rows .each outLast last-in 24)) (rows .ct outLast last-in)
 
   rows-are : (i : ℕ) → i ≤ outLast → row i ≡ outRow (row 0 .stamp) (stateIn z) (claimOf z) i
   unfolding outRow k10
   rows-are i h =
-      let same : (k : ℕ) → getD (kept (row i)) k 0 ≡ getD (kept z) k 0 = λ k. ap (λ (l : List ℕ). getD l k 0) (kept-last outLast 1 v rows i h) in
+      let same = as-last outLast 1 v rows i h in
       let c : Carried (row i) = carried i h in
-      let off : (k : ℕ) → getD (cellsIn fromComp (row i)) k 0 ≡ 0 = zeros-at (cellsIn fromComp (row i)) (c .unused) in
+      let off = zeros-at (cellsIn fromComp (row i)) (c .unused) in
       let d : z .acc1 ≡ beyondEnd (claimOf z) - bound = omega (arith, beyond-by) in
       let one = pinned outLast 1 v rows (λ x. x .byte1) (λ x. x .acc1) (λ i h. narrow-at outLast 1 v rows i h .byte1)
-      (λ i h. of-used (row i) (rows .used i h) (k10 (v i .one) (row i)) (rows .each i h 9)) (beyondEnd (claimOf z) - bound) d i h in
-      let stamp = rows .stamp i h in
-      let ooob = rows .ooob i h in
-      let ct = rows .ct i h in
-      let memn = c .stayed .memn ∙ same 3 in
-      let costn = c .stayed .costn ∙ same 5 in
+      (met10 outLast 1 v rows) d i h in
       λ j. record {
-        stamp = stamp j;
+        stamp = rows .stamp i h j;
         cn = same 0 j;
-        ooob = ooob j;
-        ct = ct j;
+        ooob = rows .ooob i h j;
+        ct = rows .ct i h j;
         end1 = same 1 j;
         end2 = same 2 j;
         byte1 = one .0 j;
@@ -72,9 +70,9 @@ module _ (v : ℕ → View) (rows : Rows outLast 1 v) where
         acc1 = one .1 j;
         acc2 = c .acc2 j;
         mem = same 3 j;
-        memn = memn j;
+        memn = (c .stayed .memn ∙ same 3) j;
         cost = same 5 j;
-        costn = costn j;
+        costn = (c .stayed .costn ∙ same 5) j;
         gas = c .stayed .gas j;
         comp = off 0 j;
         dbyte = off 1 j;
@@ -94,15 +92,13 @@ module _ (v : ℕ → View) (rows : Rows outLast 1 v) where
       }
 
   out-of-bounds : inBounds (claimOf z) ≡ false
-  unfolding inBounds beyondEnd
-  out-of-bounds = out-by (claimOf z) (z .acc1) (leb bound (z .end1)) (ltb (z .end1) bound) refl refl beyond-by
+  out-of-bounds = out-by (claimOf z) (z .acc1) beyond-by
 
+  -- the claim that the first row shows is out of bounds
   pub out-claim : inBounds (claimOf (row 0)) ≡ false
-  out-claim = ap inBounds (sym (claim-kept z (row 0) (kept-first outLast 1 v rows outLast last-in))) ∙ out-of-bounds
+  out-claim = as-first outLast 1 v rows (λ s c. inBounds c ≡ false) out-of-bounds
 
+  -- and the rows are those of that claim, at the state before it that the first row shows
   pub out-unique : (i : ℕ) → i ≤ outLast → row i ≡ rowOf (row 0 .stamp) (stateIn (row 0)) (claimOf (row 0)) i
   unfolding rowOf
-  out-unique i h =
-      let same : kept z ≡ kept (row 0) = kept-first outLast 1 v rows outLast last-in in
-      let f : State → Claim → Cells = λ s c. outRow (row 0 .stamp) s c i in
-      rw out-claim (rows-are i h ∙ ap₂ f (state-kept z (row 0) same) (claim-kept z (row 0) same))
+  out-unique i h = rw out-claim (as-first outLast 1 v rows (λ s c. row i ≡ outRow (row 0 .stamp) s c i) (rows-are i h))

@@ -3,27 +3,21 @@ use Prim.Native.Nat.{ℕ, zero, suc, _+_, _-_, _<_}
 use mathlib.Core.Bool.{Bool, true, false, not}
 use mathlib.Core.List.{List, [], _∷_, _++_, map}
 use mathlib.Core.Path.{_≡_, refl, sym, _∙_, ap}
-use native.Mathlib.Nat.{add-zero, add-suc, suc-add, zero-add, sub-self, suc-ne-zero}
+use native.Mathlib.Nat.{add-zero, add-suc, suc-add, zero-add, sub-self}
 use native.Mathlib.Omega.{arith}
-use borrow.Author.Tests.{ne-eqb}
-use lib.Dec.{eqb, ltb, leb}
+use lib.Dec.{eqb, ltb, leb, eqb·suc-zero}
 use lib.ListN.{length, getD, take, drop, replicate, length-append, length-replicate, length-map}
 use lib.Seq.{length-take-le, take-suc, split-at, take-at, drop-append-seam, getD-at}
 use Rattle.model.specs.Columns.{Cells, emptyRow, table}
 use Rattle.model.specs.Constraints.{inLast, outLast, lastCt, inUse}
-use Rattle.model.specs.Cycles.{Cycle, Claim, rowsIn, starts, cyclesFrom, cycles, claimOf, claims, count, isOob, emptyRows, counts, noCycle, instruction}
+use Rattle.model.specs.Cycles.{Cycle, rowsIn, starts, cyclesFrom, cycles, Claim, claimOf, claims}
+use Rattle.model.specs.Cycles.{count, isOob, emptyRows, counts, noCycle, instruction}
 use Rattle.model.specs.Promises.{countsOf}
 use Rattle.model.specs.State.{Context, State, contextOf, stateOf, fresh}
 use Rattle.model.specs.Tests.{pick, bit}
 use Rattle.model.specs.Trace.{inBounds, lastOf, top, reach, inRow, outRow, rowOf, cycleOf, after, afterClaim, afterClaims, cyclesOf, trace}
 use Rattle.model.proofs.JoinLaws.{length-cycle, trace-append, trace-snoc}
-
-pick-under : {A B : Type 0} (f : A → B) (t : Bool) (a b : A) → pick t (f a) (f b) ≡ f (pick t a b)
-pick-under f true a b = refl
-pick-under f false a b = refl
-
-suc-test : (k : ℕ) → eqb (suc k) 0 ≡ false
-suc-test k = ne-eqb (suc k) 0 (suc-ne-zero k)
+use Rattle.model.proofs.TestFacts.{pick-under}
 
 -- ---- a row
 
@@ -46,6 +40,7 @@ unfolding inRow outRow after reach
 row-by true k s c i e = search e
 row-by false k s c i e = search (e, sub-self)
 
+-- the defined row is one
 pub is-row : (k : ℕ) (s : State) (c : Claim) (i : ℕ) → IsRow k s c i (rowOf k s c i)
 unfolding rowOf
 is-row k s c i = row-by (inBounds c) k s c i refl
@@ -60,6 +55,7 @@ pub last-of-row : (k : ℕ) (s : State) (c : Claim) (i : ℕ) → lastCt (rowOf 
 unfolding lastOf
 last-of-row k s c i = ap lastCt (is-row k s c i .ooob) ∙ last-by (inBounds c)
 
+-- the claim that a row shows is the claim that it was made from
 pub claim-of-row : (k : ℕ) (s : State) (c : Claim) (i : ℕ) → claimOf (rowOf k s c i) ≡ c
 claim-of-row k s c i =
     let r = is-row k s c i in
@@ -73,13 +69,13 @@ oob-of-row : (k : ℕ) (s : State) (c : Claim) (i : ℕ) → eqb (rowOf k s c i 
 oob-of-row k s c i = ap (λ v. eqb v 1) (is-row k s c i .ooob) ∙ bit-test (not (inBounds c))
 
 -- at a stamp from 1 up each row is one of an instruction, and row 0 alone starts a cycle
-in-use : (k : ℕ) (s : State) (c : Claim) (i : ℕ) → inUse (rowOf (suc k) s c i) ≡ true
+row-used : (k : ℕ) (s : State) (c : Claim) (i : ℕ) → inUse (rowOf (suc k) s c i) ≡ true
 unfolding inUse
-in-use k s c i = rw (is-row (suc k) s c i .stamp, suc-test k)
+row-used k s c i = rw (is-row (suc k) s c i .stamp, eqb·suc-zero k)
 
 starts-first : (k : ℕ) (s : State) (c : Claim) (i : ℕ) → starts (rowOf (suc k) s c i) ≡ eqb i 0
 unfolding starts
-starts-first k s c i = rw (in-use k s c i, is-row (suc k) s c i .ct)
+starts-first k s c i = rw (row-used k s c i, is-row (suc k) s c i .ct)
 
 -- ---- cycles
 
@@ -89,6 +85,7 @@ placed i stamp states [] = []
 placed i stamp states (c ∷ cs) =
     record { first = i; row = rowOf stamp (states (c .context)) c 0 } ∷ placed (i + suc (lastOf c)) (suc stamp) (afterClaim states c) cs
 
+-- the cycles of joined rows are those of each part
 pub cycles-join : (i : ℕ) (xs ys : List Cells) → cyclesFrom i (xs ++ ys) ≡ cyclesFrom i xs ++ cyclesFrom (i + length xs) ys
 unfolding cyclesFrom
 cycles-join i [] ys = rw add-zero
@@ -111,7 +108,7 @@ cycles-empty i (suc n) = cycles-empty (suc i) n
 cycles-one : (i k : ℕ) (s : State) (c : Claim) → cyclesFrom i (cycleOf (suc k) s c) ≡ record { first = i; row = rowOf (suc k) s c 0 } ∷ []
 unfolding cyclesFrom cycleOf table
 cycles-one i k s c =
-    rw (starts-first k s c 0, cycles-none (suc i) (lastOf c) (λ j. rowOf (suc k) s c (suc j)) (λ j. starts-first k s c (suc j) ∙ suc-test j))
+    rw (starts-first k s c 0, cycles-none (suc i) (lastOf c) (λ j. rowOf (suc k) s c (suc j)) (λ j. starts-first k s c (suc j) ∙ eqb·suc-zero j))
 
 cycles-placed : (i k : ℕ) (states : Context → State) (cs : List Claim) → cyclesFrom i (cyclesOf (suc k) states cs) ≡ placed i (suc k) states cs
 unfolding cyclesFrom cyclesOf placed
@@ -126,7 +123,8 @@ cycles-of-trace n cs = rw (cycles-join, cycles-empty 0 n, length-replicate, zero
 
 -- one claim more is one cycle more
 pub cycles-snoc : (n : ℕ) (cs : List Claim) (c : Claim)
-    → cycles (trace n (cs ++ (c ∷ []))) ≡ cycles (trace n cs) ++ (record { first = length (trace n cs); row = rowOf (suc (length cs)) (afterClaims fresh cs (c .context)) c 0 } ∷ [])
+    → cycles (trace n (cs ++ (c ∷ [])))
+    ≡ cycles (trace n cs) ++ (record { first = length (trace n cs); row = rowOf (suc (length cs)) (afterClaims fresh cs (c .context)) c 0 } ∷ [])
 cycles-snoc n cs c = rw (trace-snoc, cycles-join, zero-add, cycles-one)
 
 -- ---- claims
@@ -137,11 +135,13 @@ claims-placed i k states [] = refl
 claims-placed i k states (c ∷ cs) =
     λ j. claim-of-row k (states (c .context)) c 0 j ∷ claims-placed (i + suc (lastOf c)) (suc k) (afterClaim states c) cs j
 
+-- the claims of a trace are those that it was made from
 pub claims-trace : (n : ℕ) (cs : List Claim) → claims (trace n cs) ≡ cs
 claims-trace n cs = rw (cycles-of-trace n cs) (claims-placed n 1 fresh cs)
 
 -- ---- counts
 
+-- as many instructions as claims
 pub instructions-trace : (n : ℕ) (cs : List Claim) → length (cycles (trace n cs)) ≡ length cs
 instructions-trace n cs = sym (length-map (cycles (trace n cs)) (λ (c : Cycle). claimOf (c .row))) ∙ ap length (claims-trace n cs)
 
@@ -173,17 +173,19 @@ empty-rows (suc n) = ap suc (empty-rows n)
 
 empty-cycle : (k : ℕ) (s : State) (c : Claim) → count isEmpty (cycleOf (suc k) s c) ≡ 0
 unfolding cycleOf
-empty-cycle k s c = count-none isEmpty (suc (lastOf c)) (rowOf (suc k) s c) (λ j. ap not (in-use k s c j))
+empty-cycle k s c = count-none isEmpty (suc (lastOf c)) (rowOf (suc k) s c) (λ j. ap not (row-used k s c j))
 
 empty-cycles : (k : ℕ) (states : Context → State) (cs : List Claim) → count isEmpty (cyclesOf (suc k) states cs) ≡ 0
 unfolding cyclesOf count
 empty-cycles k states [] = refl
 empty-cycles k states (c ∷ cs) = rw (count-join, empty-cycle k (states (c .context)) c, empty-cycles (suc k) (afterClaim states c) cs)
 
+-- the empty rows of a trace are those that it was made with
 pub empty-trace : (n : ℕ) (cs : List Claim) → emptyRows (trace n cs) ≡ n
 unfolding trace emptyRows
 empty-trace n cs = rw (count-join, empty-rows n, empty-cycles 0 fresh cs, add-zero)
 
+-- and so are its counts
 pub counts-trace : (n : ℕ) (cs : List Claim) → counts (trace n cs) ≡ countsOf n cs
 unfolding counts
 counts-trace n cs =
@@ -191,6 +193,10 @@ counts-trace n cs =
     λ j. record { instructions = instructions-trace n cs j; oob = oob j; empty = empty-trace n cs j }
 
 -- ---- an instruction
+
+-- what stands for a claim where there is none
+abbrev pub noClaim : Claim
+noClaim = claimOf emptyRow
 
 module _ (n k : ℕ) (cs : List Claim) (d : Claim) (h : k < length cs) where
   -- its claim, the state of its context before it, and its cycle
@@ -213,6 +219,7 @@ module _ (n k : ℕ) (cs : List Claim) (d : Claim) (h : k < length cs) where
   cycles-at : (rest : List Cycle) × (cycles (trace n cs) ≡ cycles (trace n (take k cs)) ++ (cycle ∷ rest))
   cycles-at = (_, rw (cycles-join, zero-add, cycles-join, cycles-one (cycle .first) k state claim) at (ap cycles (trace-at .1)))
 
+  -- instruction suc k is the cycle of claim k, at the state that the claims before it leave
   pub instruction-trace : instruction (trace n cs) (suc k) ≡ cycle
   unfolding instruction
   instruction-trace =
@@ -227,10 +234,6 @@ module _ (n k : ℕ) (cs : List Claim) (d : Claim) (h : k < length cs) where
       (take-at (cycleOf (suc k) state claim) (trace-at .0) (suc (lastOf claim)) (length-cycle (suc k) state claim))
 
 -- the trace of the first claims is as long as the rows up to the end of the last one's cycle
-module _ (n k : ℕ) (cs : List Claim) (h : k < length cs) where
-  -- what a list of claims gives outside of it
-  abbrev outside : Claim
-  outside = claimOf emptyRow
-
-  pub cycle-end : length (trace n (take (suc k) cs)) ≡ instruction (trace n cs) (suc k) .first + rowsIn (instruction (trace n cs) (suc k))
-  cycle-end = rw (instruction-trace n k cs outside h, last-of-row, take-suc cs k outside h, trace-snoc, length-append, length-cycle)
+pub cycle-end : (n k : ℕ) (cs : List Claim) → k < length cs
+    → length (trace n (take (suc k) cs)) ≡ instruction (trace n cs) (suc k) .first + rowsIn (instruction (trace n cs) (suc k))
+cycle-end n k cs h = rw (instruction-trace n k cs noClaim h, last-of-row, take-suc cs k noClaim h, trace-snoc, length-append, length-cycle)

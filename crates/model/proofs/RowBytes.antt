@@ -11,25 +11,38 @@ use Rattle.number.specs.Num.{be, AllBytes}
 use Rattle.number.proofs.CellLaws.{length-encode, encode-decode, decode-encode, decode-fit}
 use Rattle.number.proofs.NumLaws.{be-bytes}
 use Rattle.model.specs.Columns.{Cells, columns, cellsIn, widths, rowBytes, ofList, emptyRow, rowAt, table, rowsOf, bytesOf}
-use Rattle.model.proofs.TableOf.{table-path, table-snoc, table-of-list}
+use Rattle.model.proofs.TableOf.{length-table, getD-table, table-path, table-snoc, table-of-list}
 
--- ---- a row that is read
+-- ---- rows that are read
 
--- its cells are those that stand in its bytes, and they fit
+-- there are as many as the bytes have whole rows
+pub length-rows : (l : List ℕ) → length (rowsOf l) ≡ length l / rowBytes
+unfolding rowsOf
+length-rows l = length-table (length l / rowBytes) (rowAt l)
+
+-- each is read at its place
+pub row-of-rows : (l : List ℕ) (i : ℕ) → i < length (rowsOf l) → rowAt l i ≡ getD (rowsOf l) i emptyRow
+unfolding rowsOf
+row-of-rows l i h = sym (getD-table (length l / rowBytes) (rowAt l) i emptyRow (rw (length-rows l) at h))
+
+-- the cells of a row are those that stand in its bytes
 pub cells-row : (l : List ℕ) (i : ℕ) → cellsIn columns (rowAt l i) ≡ decode widths l (i * rowBytes)
 unfolding rowAt decode
 cells-row l i = refl
 
+-- and they fit their columns
 pub row-fits : (l : List ℕ) (i : ℕ) → AllBytes l → suc i * rowBytes ≤ length l → Fit widths (cellsIn columns (rowAt l i))
 row-fits l i b h = rw (cells-row l i) (decode-fit widths l (i * rowBytes) b (omega arith))
 
 -- ---- the bytes of rows
 
+-- as many for each row as its columns have
 pub length-bytes : (rows : List Cells) → length (bytesOf rows) ≡ length rows * rowBytes
 unfolding bytesOf
 length-bytes [] = omega arith
 length-bytes (x ∷ xs) = rw (length-append, length-encode, length-bytes xs) (omega arith)
 
+-- the bytes of joined rows are joined
 pub bytes-append : (xs ys : List Cells) → bytesOf (xs ++ ys) ≡ bytesOf xs ++ bytesOf ys
 unfolding bytesOf
 bytes-append [] ys = refl
@@ -46,11 +59,16 @@ encode-bytes [] vs = λ i h. absurd (not-suc-le-zero h)
 encode-bytes (w ∷ ws) [] = all-bytes-append (be w 0) (encode ws []) (be-bytes w 0) (encode-bytes ws [])
 encode-bytes (w ∷ ws) (v ∷ vs) = all-bytes-append (be w v) (encode ws vs) (be-bytes w v) (encode-bytes ws vs)
 
+-- all of them are bytes
 pub bytes-are-bytes : (rows : List Cells) → AllBytes (bytesOf rows)
 unfolding bytesOf
 bytes-are-bytes [] = λ i h. absurd (not-suc-le-zero h)
 bytes-are-bytes (x ∷ xs) =
     all-bytes-append (encode widths (cellsIn columns x)) (bytesOf xs) (encode-bytes widths (cellsIn columns x)) (bytes-are-bytes xs)
+
+-- the rows below p have the bytes below theirs
+length-first : (xs : List Cells) (p : ℕ) → p ≤ length xs → length (bytesOf (take p xs)) ≡ p * rowBytes
+length-first xs p h = rw (length-bytes, length-take-le p xs h)
 
 -- ---- rows that were written are read back
 
@@ -64,20 +82,21 @@ fit-at [] i f h = absurd (not-suc-le-zero h)
 fit-at (x ∷ xs) zero f h = f .0
 fit-at (x ∷ xs) (suc i) f h = fit-at xs i (f .1) (le-of-suc-le-suc h)
 
--- in the middle of other bytes
+-- a row in the middle of other bytes
 row-at : (l k : List ℕ) (i : ℕ) (x : Cells) → length l ≡ i * rowBytes → Fit widths (cellsIn columns x)
     → rowAt (l ++ (encode widths (cellsIn columns x) ++ k)) i ≡ x
 unfolding rowAt
 row-at l k i x e f = rw (← e) (ap ofList (decode-encode widths (cellsIn columns x) l k f))
 
+-- each row that fits is read back from the bytes
 pub row-back : (rows : List Cells) (i : ℕ) → AllFit rows → i < length rows → rowAt (bytesOf rows) i ≡ getD rows i emptyRow
 unfolding bytesOf
 row-back rows i f h =
     let x : Cells = getD rows i emptyRow in
     let e = ap bytesOf (split-at rows i emptyRow h) ∙ bytes-append (take i rows) (x ∷ drop (suc i) rows) in
-    let n : length (bytesOf (take i rows)) ≡ i * rowBytes = rw (length-bytes, length-take-le i rows (omega arith)) in
-    rw e (row-at (bytesOf (take i rows)) (bytesOf (drop (suc i) rows)) i x n (fit-at rows i f h))
+    rw e (row-at (bytesOf (take i rows)) (bytesOf (drop (suc i) rows)) i x (length-first rows i (omega arith)) (fit-at rows i f h))
 
+-- and so are all of them
 pub rows-back : (rows : List Cells) → AllFit rows → rowsOf (bytesOf rows) ≡ rows
 unfolding rowsOf total
 rows-back rows f =
@@ -98,6 +117,7 @@ bytes-first l (suc n) b h =
     let m : suc n * rowBytes ≡ n * rowBytes + rowBytes = omega arith in
     rw (bytes-next (rowAt l) n, bytes-first l n b (omega arith), cells-row l n, e, m, take-add)
 
+-- the bytes of whole rows are those of the rows read from them
 pub bytes-back : (l : List ℕ) → AllBytes l → length l % rowBytes ≡ 0 → bytesOf (rowsOf l) ≡ l
 unfolding rowsOf total
 bytes-back l b h = bytes-first l (length l / rowBytes) b (omega arith) ∙ take-all (length l / rowBytes * rowBytes) l (omega arith)
@@ -107,16 +127,14 @@ bytes-back l b h = bytes-first l (length l / rowBytes) b (omega arith) ∙ take-
 bytes-split : (xs : List Cells) (p : ℕ) → bytesOf xs ≡ bytesOf (take p xs) ++ bytesOf (drop p xs)
 bytes-split xs p = ap bytesOf (sym (take-append-drop p xs)) ∙ bytes-append (take p xs) (drop p xs)
 
-length-first : (xs : List Cells) (p : ℕ) → p ≤ length xs → length (bytesOf (take p xs)) ≡ p * rowBytes
-length-first xs p h = rw (length-bytes, length-take-le p xs h)
+-- the first m rows
+pub bytes-take : (xs : List Cells) (m : ℕ) → m ≤ length xs → take (m * rowBytes) (bytesOf xs) ≡ bytesOf (take m xs)
+bytes-take xs m h = rw (bytes-split xs m) (take-at (bytesOf (take m xs)) (bytesOf (drop m xs)) (m * rowBytes) (length-first xs m h))
 
+bytes-drop : (xs : List Cells) (p : ℕ) → p ≤ length xs → drop (p * rowBytes) (bytesOf xs) ≡ bytesOf (drop p xs)
+bytes-drop xs p h = rw (bytes-split xs p) (drop-at (bytesOf (take p xs)) (bytesOf (drop p xs)) (p * rowBytes) (length-first xs p h))
+
+-- m rows from row p on
 pub bytes-part : (xs : List Cells) (p m : ℕ) → p + m ≤ length xs
     → take (m * rowBytes) (drop (p * rowBytes) (bytesOf xs)) ≡ bytesOf (take m (drop p xs))
-bytes-part xs p m h =
-    let ys : List Cells = drop p xs in
-    let rest : drop (p * rowBytes) (bytesOf xs) ≡ bytesOf ys =
-    ap (drop (p * rowBytes)) (bytes-split xs p) ∙ drop-at (bytesOf (take p xs)) (bytesOf ys) (p * rowBytes) (length-first xs p (omega arith)) in
-    let first : take (m * rowBytes) (bytesOf ys) ≡ bytesOf (take m ys) =
-    ap (take (m * rowBytes)) (bytes-split ys m)
-    ∙ take-at (bytesOf (take m ys)) (bytesOf (drop m ys)) (m * rowBytes) (length-first ys m (omega (arith, length-drop p xs))) in
-    ap (take (m * rowBytes)) rest ∙ first
+bytes-part xs p m h = rw (bytes-drop xs p (omega arith)) (bytes-take (drop p xs) m (omega (arith, length-drop p xs)))

@@ -1,31 +1,33 @@
--- How a row meets the constraints that do not look at the cells of its kind: its place in the trace, what its cycle keeps, and bytes that sum up.
+-- How constraints are met, whatever the claim: under the conditions that they stand under, by STAMP and CT that move, and by bytes that sum up.
 use Prim.Native.Nat.{ℕ, zero, suc, _+_, _^_, _<_, _≤_}
 use mathlib.Core.Bool.{Bool, true, false, _||_}
 use mathlib.Core.Logic.{_≢_}
 use mathlib.Core.Path.{_≡_, refl}
-use native.Mathlib.Nat.{suc-ne-zero}
 use native.Mathlib.Omega.{arith}
-use borrow.Author.Tests.{eqb-true, eq-eqb, ne-eqb}
-use lib.Dec.{eqb}
+use borrow.Author.Tests.{eq-eqb, ne-eqb}
+use lib.Dec.{eqb, eqb·suc-zero}
 use Rattle.number.specs.Sums.{prefixAt, digitAt}
 use Rattle.number.proofs.SumLaws.{digits-sum-up}
 use Rattle.model.specs.Columns.{Cells}
 use Rattle.model.specs.Constraints.{inUse, used, within, beyond}
 use Rattle.model.specs.Constraints.{k11, k12, k13, k14, k15, k16, k17, k18, k19, k20, k21, k22, k23, k24, k25}
 use Rattle.model.specs.Steps.{stampMoves, ctMoves}
-use Rattle.model.specs.Tests.{pick, implies, sumsUp}
-use Rattle.model.proofs.TestFacts.{implies-met}
+use Rattle.model.specs.Tests.{pick, sumsUp}
+use Rattle.model.proofs.TestFacts.{implies-met, if-equal-met, eqb-self}
 
 -- ---- the conditions that constraints stand under
 
+-- one of 7 to 25 is met if what it asks is
 pub used-met : (x : Cells) (k : Bool) → k ≡ true → used x k ≡ true
 used-met x k h = implies-met (inUse x) k (λ e. h)
 
+-- one of 11 to 23 is met if what it asks is, where OOOB=0
 pub within-met : (x : Cells) (k : Bool) → (x .ooob ≡ 0 → k ≡ true) → within x k ≡ true
-within-met x k h = used-met x (implies (eqb (x .ooob) 0) k) (implies-met (eqb (x .ooob) 0) k (λ e. h (eqb-true (x .ooob) 0 e)))
+within-met x k h = used-met x _ (if-equal-met (x .ooob) 0 k h)
 
+-- 24 or 25 is met if what it asks is, where OOOB=1
 pub beyond-met : (x : Cells) (k : Bool) → (x .ooob ≡ 1 → k ≡ true) → beyond x k ≡ true
-beyond-met x k h = used-met x (implies (eqb (x .ooob) 1) k) (implies-met (eqb (x .ooob) 1) k (λ e. h (eqb-true (x .ooob) 1 e)))
+beyond-met x k h = used-met x _ (if-equal-met (x .ooob) 1 k h)
 
 -- a row x, after the rows a and b, meets 11 to 23
 pub record Within (a b x : Cells) : Type 0 where
@@ -50,14 +52,17 @@ pub record Beyond (x : Cells) : Type 0 where
 
 -- ---- STAMP and CT
 
+-- inside a cycle STAMP may stay
 pub stamp-stays : (s ct last : ℕ) → s ≢ 0 → ct ≢ last → stampMoves s ct last s ≡ true
 unfolding stampMoves
-stamp-stays s ct last z k = rw (ne-eqb s 0 z, ne-eqb ct last k) (eq-eqb s s refl)
+stamp-stays s ct last z k = rw (ne-eqb s 0 z, ne-eqb ct last k) (eqb-self s)
 
+-- after its last row STAMP may be one more
 pub stamp-next : (s ct last : ℕ) → s ≢ 0 → ct ≡ last → stampMoves s ct last (suc s) ≡ true
 unfolding stampMoves
 stamp-next s ct last z k = rw (ne-eqb s 0 z, eq-eqb ct last k) (eq-eqb (suc s) (s + 1) (omega arith))
 
+-- where STAMP is new CT may be 0
 pub ct-starts : (s ct t : ℕ) → t ≢ s → ctMoves s ct t 0 ≡ true
 unfolding ctMoves
 ct-starts s ct t k = rw (ne-eqb t s k) (go (eqb t 0))
@@ -66,9 +71,10 @@ ct-starts s ct t k = rw (ne-eqb t s k) (go (eqb t 0))
     go true = refl
     go false = refl
 
+-- inside a cycle CT may be one more
 pub ct-next : (s ct : ℕ) → s ≢ 0 → ctMoves s ct s (suc ct) ≡ true
 unfolding ctMoves
-ct-next s ct z = rw (ne-eqb s 0 z, eq-eqb s s refl) (eq-eqb (suc ct) (ct + 1) (omega arith))
+ct-next s ct z = rw (ne-eqb s 0 z, eqb-self s) (eq-eqb (suc ct) (ct + 1) (omega arith))
 
 -- ---- sums
 
@@ -76,6 +82,6 @@ ct-next s ct z = rw (ne-eqb s 0 z, eq-eqb s s refl) (eq-eqb (suc ct) (ct + 1) (o
 pub sums-met : (m v : ℕ) → v < 256 ^ suc m → (i b : ℕ) → i ≤ m → ((j : ℕ) → i ≡ suc j → b ≡ prefixAt m v j)
     → sumsUp i b (digitAt m v i) (prefixAt m v i) ≡ true
 unfolding sumsUp
-sums-met m v h zero b l e = eq-eqb (prefixAt m v 0) (digitAt m v 0) (digits-sum-up m v h .first)
+sums-met m v h zero b l e = eq-eqb _ _ (digits-sum-up m v h .first)
 sums-met m v h (suc i) b l e =
-    rw (ne-eqb (suc i) 0 (suc-ne-zero i), e i refl) (eq-eqb (prefixAt m v (suc i)) _ (digits-sum-up m v h .next i l))
+    rw (eqb·suc-zero i, e i refl) (eq-eqb _ _ (digits-sum-up m v h .next i l))

@@ -13,18 +13,22 @@ use Rattle.model.specs.Tests.{pick}
 
 -- ---- one step
 
+-- after an empty row STAMP is 0 or 1
 pub stamp-after-empty : (ct last t : ℕ) → stampMoves 0 ct last t ≡ true → t ≤ 1
 unfolding stampMoves
 stamp-after-empty ct last t h = leb-true t 1 h
 
+-- inside a cycle it is as before
 pub stamp-inside : (s ct last t : ℕ) → s ≢ 0 → ct ≢ last → stampMoves s ct last t ≡ true → t ≡ s
 unfolding stampMoves
 stamp-inside s ct last t z k h = eqb-true t s (rw (ne-eqb s 0 z, ne-eqb ct last k) at h)
 
+-- after its last row it is one more
 pub stamp-over : (s ct last t : ℕ) → s ≢ 0 → ct ≡ last → stampMoves s ct last t ≡ true → t ≡ suc s
 unfolding stampMoves
 stamp-over s ct last t z k h = eqb-true t (s + 1) (rw (ne-eqb s 0 z, eq-eqb ct last k) at h) ∙ omega arith
 
+-- where STAMP is new, CT is 0
 pub ct-new : (s ct t u : ℕ) → t ≢ s → ctMoves s ct t u ≡ true → u ≡ 0
 unfolding ctMoves
 ct-new s ct t u k h = go (eqb t 0) (eqb-true u (pick (eqb t 0 || not (eqb t s)) 0 (ct + 1)) h)
@@ -33,6 +37,7 @@ ct-new s ct t u k h = go (eqb t 0) (eqb-true u (pick (eqb t 0 || not (eqb t s)) 
     go true e = e
     go false e = rw (ne-eqb t s k) at e
 
+-- inside a cycle it is one more than before
 pub ct-inside : (s ct t u : ℕ) → t ≢ 0 → t ≡ s → ctMoves s ct t u ≡ true → u ≡ suc ct
 unfolding ctMoves
 ct-inside s ct t u z k h = eqb-true u (ct + 1) (rw (ne-eqb t 0 z, eq-eqb t s k) at h) ∙ omega arith
@@ -90,6 +95,7 @@ module _ (n : ℕ) (stamp ct last : ℕ → ℕ) (steps : Steps n stamp ct last)
         sameLast = rw add-suc (steps .same (p + i) f (λ z. absurd (omega arith)) ∙ u .sameLast);
       }
 
+  -- a cycle that starts goes on up to its last CT
   pub run : (p : ℕ) → Start p → (i : ℕ) → i ≤ last p → Run p i
   run p b zero l = record { fits = rw add-zero (b .fits); sameStamp = rw add-zero; place = rw add-zero (b .first); sameLast = rw add-zero }
   run p b (suc i) l = run-next p i b l (run p b i (le-of-suc-le l))
@@ -106,9 +112,11 @@ module _ (n : ℕ) (stamp ct last : ℕ → ℕ) (steps : Steps n stamp ct last)
   abbrev pub At : (p s : ℕ) → Type 0
   At p s = (p ≡ n) ⊎ ((p < n) × (stamp p ≡ s) × (ct p ≡ 0))
 
+  -- with a stamp from 1 up it is a cycle that starts
   pub start : (p s : ℕ) → 0 < s → (p < n) × (stamp p ≡ s) × (ct p ≡ 0) → Start p
   start p s z w = record { fits = w .0; used = λ e. absurd (omega arith); first = w .2 }
 
+  -- after a cycle comes the next one, or nothing
   pub next : (p : ℕ) → Start p → At (p + suc (last p)) (suc (stamp p))
   next p b = rw add-suc (go (ℕ-discrete (suc (p + last p)) n))
     where
@@ -126,46 +134,37 @@ module _ (n : ℕ) (stamp ct last : ℕ → ℕ) (steps : Steps n stamp ct last)
 
   -- after an empty row comes an empty row, the first cycle, or nothing
   pub after-empty : (p : ℕ) → p < n → stamp p ≡ 0 → ((suc p < n) × (stamp (suc p) ≡ 0)) ⊎ At (suc p) 1
-  after-empty p h e = go (ℕ-discrete (suc p) n)
+  after-empty p h e = go (ℕ-discrete (suc p) n) (ℕ-discrete (stamp (suc p)) 0)
     where
-      one : suc p < n → stamp (suc p) ≢ 0 → At (suc p) 1
-      one f z =
+      go : Dec (suc p ≡ n) → Dec (stamp (suc p) ≡ 0) → ((suc p < n) × (stamp (suc p) ≡ 0)) ⊎ At (suc p) 1
+      go (yes q) d = inr (inl q)
+      go (no q) (yes z) = inl (omega arith, z)
+      go (no q) (no z) =
+          let f : suc p < n = omega arith in
           let t : stamp (suc p) ≤ 1 = stamp-after-empty (ct p) (last p) (stamp (suc p)) (rw e at (steps .stamps p f)) in
-          inr (f, omega arith, ct-new _ _ _ _ (λ q. z (q ∙ e)) (steps .cts p f))
-
-      go : Dec (suc p ≡ n) → ((suc p < n) × (stamp (suc p) ≡ 0)) ⊎ At (suc p) 1
-      go (yes q) = inr (inl q)
-      go (no q) = zero-or (omega arith) (ℕ-discrete (stamp (suc p)) 0)
-        where
-          zero-or : suc p < n → Dec (stamp (suc p) ≡ 0) → ((suc p < n) × (stamp (suc p) ≡ 0)) ⊎ At (suc p) 1
-          zero-or f (yes z) = inl (f, z)
-          zero-or f (no z) = inr (one f z)
+          inr (inr (f, omega arith, ct-new _ _ _ _ (λ q. z (q ∙ e)) (steps .cts p f)))
 
   -- what goes back over one cycle goes back over all
-  cycles-within : (P : (p s : ℕ) → Type 0) → ((s : ℕ) → P n s)
-      → ((p : ℕ) → Start p → P (p + suc (last p)) (suc (stamp p)) → P p (stamp p))
-      → (f p s : ℕ) → 0 < s → n ≤ p + f → At p s → P p s
-  cycles-within P end over zero p s z l (inl e) = rw e (end s)
-  cycles-within P end over zero p s z l (inr w) = absurd (omega (arith, w .0))
-  cycles-within P end over (suc f) p s z l (inl e) = rw e (end s)
-  cycles-within P end over (suc f) p s z l (inr w) =
-      let b : Start p = start p s z w in
-      rw (w .1) at (over p b (cycles-within P end over f (p + suc (last p)) (suc (stamp p)) (omega arith) (omega arith) (next p b)))
+  module _ (P : (p s : ℕ) → Type 0) (end : (s : ℕ) → P n s)
+      (over : (p : ℕ) → Start p → P (p + suc (last p)) (suc (stamp p)) → P p (stamp p)) where
+    cycles-within : (f p s : ℕ) → 0 < s → n ≤ p + f → At p s → P p s
+    cycles-within zero p s z l (inl e) = rw e (end s)
+    cycles-within zero p s z l (inr w) = absurd (omega (arith, w .0))
+    cycles-within (suc f) p s z l (inl e) = rw e (end s)
+    cycles-within (suc f) p s z l (inr w) =
+        let b : Start p = start p s z w in
+        rw (w .1) at (over p b (cycles-within f (p + suc (last p)) (suc (stamp p)) (omega arith) (omega arith) (next p b)))
 
-  pub over-cycles : (P : (p s : ℕ) → Type 0) → ((s : ℕ) → P n s)
-      → ((p : ℕ) → Start p → P (p + suc (last p)) (suc (stamp p)) → P p (stamp p))
-      → (p s : ℕ) → 0 < s → At p s → P p s
-  over-cycles P end over p s z a = cycles-within P end over n p s z (omega arith) a
+    pub over-cycles : (p s : ℕ) → 0 < s → At p s → P p s
+    over-cycles p s z a = cycles-within n p s z (omega arith) a
 
   -- and what goes back from the first cycle over one empty row goes back over all of them
-  empty-within : (Q : ℕ → Type 0) → ((p : ℕ) → p < n → stamp p ≡ 0 → At (suc p) 1 → Q p)
-      → ((p : ℕ) → suc p < n → stamp p ≡ 0 → Q (suc p) → Q p)
-      → (f p : ℕ) → n ≤ p + f → p < n → stamp p ≡ 0 → Q p
-  empty-within Q first more zero p l h e = absurd (omega arith)
-  empty-within Q first more (suc f) p l h e =
-      ⊎-elim (λ w. more p (w .0) e (empty-within Q first more f (suc p) (omega arith) (w .0) (w .1))) (λ w. first p h e w) (after-empty p h e)
+  module _ (Q : ℕ → Type 0) (first : (p : ℕ) → p < n → stamp p ≡ 0 → At (suc p) 1 → Q p)
+      (more : (p : ℕ) → suc p < n → stamp p ≡ 0 → Q (suc p) → Q p) where
+    empty-within : (f p : ℕ) → n ≤ p + f → p < n → stamp p ≡ 0 → Q p
+    empty-within zero p l h e = absurd (omega arith)
+    empty-within (suc f) p l h e =
+        ⊎-elim (λ w. more p (w .0) e (empty-within f (suc p) (omega arith) (w .0) (w .1))) (first p h e) (after-empty p h e)
 
-  pub over-empty : (Q : ℕ → Type 0) → ((p : ℕ) → p < n → stamp p ≡ 0 → At (suc p) 1 → Q p)
-      → ((p : ℕ) → suc p < n → stamp p ≡ 0 → Q (suc p) → Q p)
-      → (p : ℕ) → p < n → stamp p ≡ 0 → Q p
-  over-empty Q first more p h e = empty-within Q first more n p (omega arith) h e
+    pub over-empty : (p : ℕ) → p < n → stamp p ≡ 0 → Q p
+    over-empty p h e = empty-within n p (omega arith) h e

@@ -11,18 +11,18 @@ use lib.Dec.{eqb}
 use lib.ListN.{length, getD, replicate, length-append, length-replicate, getD-replicate, List·getD-append}
 use lib.Seq.{getD-append-add}
 use Rattle.model.specs.Columns.{Cells, emptyRow}
-use Rattle.model.specs.Constraints.{lastCt, inUse, constraints, k1, k2, k3, k4, k5, k6, k26}
+use Rattle.model.specs.Constraints.{inUse, constraints, k1, k2, k3, k4, k5, k6, k26}
 use Rattle.model.specs.Cycles.{Claim}
 use Rattle.model.specs.Promises.{AllHold, ValidClaim, Valid}
-use Rattle.model.specs.State.{Context, State, contextOf, fresh, put}
+use Rattle.model.specs.State.{Context, State, contextOf, fresh}
 use Rattle.model.specs.Steps.{stampMoves, ctMoves}
-use Rattle.model.specs.Trace.{lastOf, rowOf, cycleOf, after, afterClaim, cyclesOf, trace}
+use Rattle.model.specs.Trace.{lastOf, rowOf, cycleOf, afterClaim, cyclesOf, trace}
 use Rattle.model.specs.Verdict.{rowBefore, before, view}
-use Rattle.model.proofs.BeforeLaws.{before-cycle, before-empties}
+use Rattle.model.proofs.BeforeLaws.{before-empties, before-claim}
 use Rattle.model.proofs.CycleMeets.{Leads, Behind, Passes, row-meets}
-use Rattle.model.proofs.JoinLaws.{length-cycle}
+use Rattle.model.proofs.JoinLaws.{length-cycle, length-trace}
 use Rattle.model.proofs.ReadBack.{is-row, last-of-row}
-use Rattle.model.proofs.RowFacts.{all-hold, in-use}
+use Rattle.model.proofs.RowFacts.{all-hold}
 use Rattle.model.proofs.RowTests.{stamp-next, ct-starts}
 use Rattle.model.proofs.StateLaws.{AllSound, all-sound-fresh, all-sound-after}
 use Rattle.model.proofs.TableOf.{getD-table}
@@ -43,7 +43,7 @@ stands-rest r p xs ys h i l =
 
 empty-meets : (a : Cells) (q : State) (first last : Bool)
     → Passes (record { two = a; one = emptyRow; this = emptyRow; state = q; first = first; last = last })
-unfolding k1 k2 k3 k4 k5 k6 k26 inUse lastCt stampMoves ctMoves
+unfolding k1 k2 k3 k4 k5 k6 k26 inUse stampMoves ctMoves
 empty-meets a q true true = refl
 empty-meets a q true false = refl
 empty-meets a q false true = refl
@@ -94,12 +94,7 @@ module _ (r : ℕ → Cells) (n : ℕ) where
 
     before-next : before r (suc p + suc (lastOf c)) ≡ afterClaim states c
     before-next =
-        before-cycle r (suc p) (lastOf c) (c .context) (after s c) (λ i l. (let f = is-row (suc k) s c i in rw (at i l) (record {
-          used = in-use (row i) (λ e. suc-ne-zero k (sym (f .stamp) ∙ e));
-          context = f .context;
-          state = f .state;
-        })))
-        ∙ ap (λ (states : Context → State). put states (c .context) (after s c)) b
+        before-claim r (suc p) (lastOf c) (suc k) c (suc-ne-zero k) (λ i l. rw b (at i l)) ∙ ap (λ (states : Context → State). afterClaim states c) b
 
   -- ---- the cycles of claims, after row p
 
@@ -160,10 +155,6 @@ module _ (e : ℕ) (cs : List Claim) (some : 0 < e) (valid : Valid cs) where
   unfolding trace
   empties i l = List·getD-append blanks after-blanks emptyRow i (rw length-replicate l) ∙ getD-replicate e i emptyRow emptyRow l
 
-  length-trace : length rows ≡ e + length after-blanks
-  unfolding trace
-  length-trace = rw (length-append, length-replicate)
-
   cycles-stand : Stands rowIn e after-blanks
   unfolding trace
   cycles-stand = rw (length-replicate, zero-add) at (stands-rest rowIn 0 blanks after-blanks (λ i l. ap rowIn (zero-add i)))
@@ -178,15 +169,16 @@ module _ (e : ℕ) (cs : List Claim) (some : 0 < e) (valid : Valid cs) where
       (empty-meets (rowBefore (rowBefore rowIn) i) (before rowIn i (contextOf emptyRow)) (eqb i 0) (eqb (suc i) (length rows))))
 
   leads-first : Leads emptyRow 1
-  unfolding stampMoves ctMoves lastCt
+  unfolding stampMoves ctMoves
   leads-first = record { stamps = refl; cts = refl }
 
   -- after the last empty row
   cycles-hold : (p : ℕ) → suc p ≡ e → From rowIn (length rows) e
   cycles-hold p q =
-      subst (From rowIn (length rows)) q (goes rowIn (length rows) cs p 0 fresh all-sound-fresh valid (rw q (sym length-trace))
+      subst (From rowIn (length rows)) q (goes rowIn (length rows) cs p 0 fresh all-sound-fresh valid (rw q (sym (length-trace e cs)))
       (rw (empties p (omega arith)) leads-first) (rw q cycles-stand) (rw q (before-empties rowIn e empties)))
 
+  -- all constraints hold at each row of the trace
   pub trace-holds : (i : ℕ) → i < length rows → AllHold rowIn (length rows) i
   trace-holds i l = go (decLt i e)
     where

@@ -1,35 +1,33 @@
 -- Rows that meet the constraints are the trace of their claims after their empty rows.
 use Prim.Native.Nat.{ℕ, zero, suc, _+_, _<_, _≤_}
-use mathlib.Core.Bool.{true, false, not}
+use mathlib.Core.Bool.{true, false}
 use mathlib.Core.List.{List, [], _∷_, _++_}
 use mathlib.Core.Logic.{_≢_}
 use mathlib.Core.Path.{_≡_, refl, sym, _∙_, ap}
 use native.Mathlib.Nat.{add-suc, add-zero, suc-ne-zero}
 use native.Mathlib.Omega.{arith}
-use borrow.Author.Tests.{eqb-true, eq-eqb, ne-eqb, leb-true, eqb-false, not-true}
+use borrow.Author.Tests.{eqb-true, eq-eqb, leb-true, eqb-false, not-true}
 use lib.Dec.{eqb}
 use lib.ListN.{drop, replicate}
-use lib.Seq.{drop-cons, drop-length}
+use lib.Seq.{drop-length}
 use Rattle.number.specs.Cells.{Fit}
-use Rattle.number.proofs.TestLaws.{both, both-intro}
+use Rattle.number.proofs.TestLaws.{both-intro}
 use Rattle.model.specs.Columns.{Cells, columns, widths, cellsIn, ofList, emptyRow, table}
-use Rattle.model.specs.Constraints.{inLast, outLast, lastCt, inUse, View, k1, k2, k3, k4, k5, k6, k7, k9, k26}
+use Rattle.model.specs.Constraints.{inLast, outLast, lastCt, View, k1, k2, k3, k4, k6, k7, k26}
 use Rattle.model.specs.Cycles.{Claim, claimOf}
 use Rattle.model.specs.Promises.{AllHold, ValidClaim, Valid}
 use Rattle.model.specs.State.{Context, State, contextOf, fresh}
-use Rattle.model.specs.Steps.{stampMoves}
-use Rattle.model.specs.Tests.{implies}
-use Rattle.model.specs.Trace.{inBounds, lastOf, rowOf, cycleOf, after, afterClaim, cyclesOf, trace}
+use Rattle.model.specs.Trace.{inBounds, lastOf, rowOf, cycleOf, afterClaim, cyclesOf, trace}
 use Rattle.model.specs.Verdict.{before, view}
-use Rattle.model.proofs.BeforeLaws.{Shows, before-cycle, before-empty}
+use Rattle.model.proofs.BeforeLaws.{before-empty, before-claim}
+use Rattle.model.proofs.ConstraintFacts.{says5, says9}
 use Rattle.model.proofs.CycleRows.{Rows, stateIn}
 use Rattle.model.proofs.InUnique.{in-claim, in-unique}
 use Rattle.model.proofs.OutUnique.{out-claim, out-unique}
-use Rattle.model.proofs.ReadBack.{is-row}
 use Rattle.model.proofs.RowFacts.{Each, each, in-use, of-used}
 use Rattle.model.proofs.StepLaws.{Steps, Start, Run, At, run, steady, over-cycles, over-empty}
-use Rattle.model.proofs.TableOf.{length-table, getD-table, table-path, drop-table}
-use Rattle.model.proofs.TestFacts.{implies-use, zeros-are}
+use Rattle.model.proofs.TableOf.{length-table, table-path, drop-first, drop-table}
+use Rattle.model.proofs.TestFacts.{implies-use, if-equal-use, if-unequal-use, zeros-are}
 
 module _ (r : ℕ → Cells) (n : ℕ) (some : 0 < n) (holds : (i : ℕ) → i < n → AllHold r n i)
     (fit : (i : ℕ) → i < n → Fit widths (cellsIn columns (r i))) where
@@ -47,24 +45,16 @@ module _ (r : ℕ → Cells) (n : ℕ) (some : 0 < n) (holds : (i : ℕ) → i <
 
   -- ---- STAMP and CT move as they should
 
-  not-first : (i : ℕ) → not (eqb (suc i) 0) ≡ true
-  not-first i = ap not (ne-eqb (suc i) 0 (suc-ne-zero i))
-
   ooob-inside : (i : ℕ) → suc i < n → ct (suc i) ≢ 0 → r (suc i) .ooob ≡ r i .ooob
-  unfolding k5
-  ooob-inside i h z =
-      let x : Cells = r (suc i) in
-      let t = both (implies (eqb (x .stamp) 0) (eqb (x .ooob) 0)) _ (each-at (suc i) h 4) .1 in
-      eqb-true (x .ooob) (r i .ooob) (implies-use (not (eqb (x .ct) 0)) _ t (ap not (ne-eqb (x .ct) 0 z)))
+  ooob-inside i h z = says5 (r i) (r (suc i)) (each-at (suc i) h 4) z
 
   steps : Steps n stamp ct last
   unfolding k3 k4 k26
   steps = record {
-    stamps = λ i h. implies-use (not (eqb (suc i) 0)) (stampMoves (stamp i) (ct i) (last i) (stamp (suc i))) (each-at (suc i) h 2) (not-first i);
+    stamps = λ i h. if-unequal-use (suc i) 0 _ (each-at (suc i) h 2) (suc-ne-zero i);
     cts = λ i h. each-at (suc i) h 3;
     same = λ i h z. ap lastCt (ooob-inside i h z);
-    whole = λ i e z. eqb-true (ct i) (last i) (implies-use _ _ (each-at i (omega arith) 25)
-        (both-intro (eqb (suc i) n) (inUse (r i)) (eq-eqb (suc i) n e) (in-use (r i) z)));
+    whole = λ i e z. eqb-true _ _ (implies-use _ _ (each-at i (omega arith) 25) (both-intro _ _ (eq-eqb (suc i) n e) (in-use (r i) z)));
   }
 
   first-stamp : stamp 0 ≡ 0
@@ -133,12 +123,9 @@ module _ (r : ℕ → Cells) (n : ℕ) (some : 0 < n) (holds : (i : ℕ) → i <
 
     -- the state that it shows is that of its context
     state-is : stateIn x ≡ before r (suc p) (contextOf x)
-    unfolding k9
     state-is =
-        let s : State = before r (suc p) (contextOf x) in
-        let t : k9 s x ≡ true = of-used x (b .used) (k9 s x) (each-at (suc p) (b .fits) 8) in
-        let e = both (eqb (x .mem) (s .mem)) (eqb (x .cost) (s .cost)) (implies-use (eqb (x .ct) 0) _ t (eq-eqb (x .ct) 0 (b .first))) in
-        λ j. record { mem = eqb-true (x .mem) (s .mem) (e .0) j; cost = eqb-true (x .cost) (s .cost) (e .1) j }
+        let e = says9 (before r (suc p) (contextOf x)) x (of-used x (b .used) _ (each-at (suc p) (b .fits) 8)) (b .first) in
+        λ j. record { mem = e .0 j; cost = e .1 j }
 
     rows-of : (i : ℕ) → i ≤ last (suc p) → r (suc p + i) ≡ rowOf (x .stamp) (before r (suc p) (contextOf x)) (claimOf x) i
     rows-of i h = is .rows-are i h ∙ ap (λ (s : State). rowOf (x .stamp) s (claimOf x) i) state-is
@@ -146,23 +133,13 @@ module _ (r : ℕ → Cells) (n : ℕ) (some : 0 < n) (holds : (i : ℕ) → i <
     valid : ValidClaim (claimOf x)
     unfolding k7 Fit
     valid =
-        let t : k7 x ≡ true = of-used x (b .used) (k7 x) (each-at (suc p) (b .fits) 6) in
+        let t : k7 x ≡ true = of-used x (b .used) _ (each-at (suc p) (b .fits) 6) in
         let f = fit (suc p) (b .fits) in
         let z : x .cn ≢ 0 = eqb-false (x .cn) 0 (not-true (eqb (x .cn) 0) t) in
         record { some = omega arith; cn = f .1 .0; end1 = f .1 .1 .1 .1 .0; end2 = f .1 .1 .1 .1 .1 .0 }
 
-    shows : (i : ℕ) → i ≤ last (suc p) → Shows (contextOf x) (after (before r (suc p) (contextOf x)) (claimOf x)) (r (suc p + i))
-    shows i h =
-        let s : State = before r (suc p) (contextOf x) in
-        let f = is-row (x .stamp) s (claimOf x) i in
-        rw (rows-of i h) (record {
-          used = in-use (rowOf (x .stamp) s (claimOf x) i) (λ z. b .used (sym (f .stamp) ∙ z));
-          context = f .context;
-          state = f .state;
-        })
-
     before-next : before r (suc p + suc (last (suc p))) ≡ afterClaim (before r (suc p)) (claimOf x)
-    before-next = before-cycle r (suc p) (last (suc p)) (contextOf x) (after (before r (suc p) (contextOf x)) (claimOf x)) shows
+    before-next = before-claim r (suc p) (last (suc p)) (x .stamp) (claimOf x) (b .used) rows-of
 
     -- the rows of its claim
     abbrev own : List Cells
@@ -174,14 +151,14 @@ module _ (r : ℕ → Cells) (n : ℕ) (some : 0 < n) (holds : (i : ℕ) → i <
   rowsHere = table n r
 
   -- from row p on stand the cycles of valid claims, the first with the stamp s
-  record Found (p s : ℕ) : Type 0 where
+  record CyclesFrom (p s : ℕ) : Type 0 where
     claims : List Claim
     are-valid : Valid claims
     stand : drop p rowsHere ≡ cyclesOf s (before r p) claims
 
-  found-end : (s : ℕ) → Found n s
+  cycles-end : (s : ℕ) → CyclesFrom n s
   unfolding cyclesOf
-  found-end s = record { claims = []; are-valid = tt; stand = rw (length-table n r) at (drop-length rowsHere) }
+  cycles-end s = record { claims = []; are-valid = tt; stand = rw (length-table n r) at (drop-length rowsHere) }
 
   cycle-stands : (p : ℕ) (b : Begins (suc p)) → drop (suc p) rowsHere ≡ own p b ++ drop (suc p + suc (last (suc p))) rowsHere
   unfolding cycleOf
@@ -191,9 +168,9 @@ module _ (r : ℕ → Cells) (n : ℕ) (some : 0 < n) (holds : (i : ℕ) → i <
       let same = table-path (suc m) (λ i. r (suc p + i)) _ (λ i h. rows-of p b i (omega arith)) in
       rw (← is p b .last-is) (drop-table n r (suc m) (suc p) fits ∙ ap (λ (l : List Cells). l ++ drop (suc p + suc m) rowsHere) same)
 
-  found-next : (p : ℕ) → Begins (suc p) → Found (suc p + suc (last (suc p))) (suc (stamp (suc p))) → Found (suc p) (stamp (suc p))
+  cycles-next : (p : ℕ) → Begins (suc p) → CyclesFrom (suc p + suc (last (suc p))) (suc (stamp (suc p))) → CyclesFrom (suc p) (stamp (suc p))
   unfolding cyclesOf
-  found-next p b rest =
+  cycles-next p b rest =
       let states = ap (λ (states : Context → State). cyclesOf (suc (stamp (suc p))) states (rest .claims)) (before-next p b) in
       record {
         claims = claimOf (r (suc p)) ∷ rest .claims;
@@ -201,16 +178,16 @@ module _ (r : ℕ → Cells) (n : ℕ) (some : 0 < n) (holds : (i : ℕ) → i <
         stand = cycle-stands p b ∙ ap (λ (l : List Cells). own p b ++ l) (rest .stand ∙ states);
       }
 
-  found-over : (p : ℕ) → Begins p → Found (p + suc (last p)) (suc (stamp p)) → Found p (stamp p)
-  found-over zero b rest = absurd (b .used first-stamp)
-  found-over (suc p) b rest = found-next p b rest
+  cycles-over : (p : ℕ) → Begins p → CyclesFrom (p + suc (last p)) (suc (stamp p)) → CyclesFrom p (stamp p)
+  cycles-over zero b rest = absurd (b .used first-stamp)
+  cycles-over (suc p) b rest = cycles-next p b rest
 
-  found : (p s : ℕ) → 0 < s → At n stamp ct last steps p s → Found p s
-  found p s z a = over-cycles n stamp ct last steps Found found-end found-over p s z a
+  cycles-from : (p s : ℕ) → 0 < s → At n stamp ct last steps p s → CyclesFrom p s
+  cycles-from p s z a = over-cycles n stamp ct last steps CyclesFrom cycles-end cycles-over p s z a
 
   empty-is : (i : ℕ) → i < n → stamp i ≡ 0 → r i ≡ emptyRow
   unfolding k6
-  empty-is i h e = ap ofList (zeros-are (cellsIn columns (r i)) (implies-use _ _ (each-at i h 5) (eq-eqb (stamp i) 0 e)))
+  empty-is i h e = ap ofList (zeros-are (cellsIn columns (r i)) (if-equal-use (stamp i) 0 _ (each-at i h 5) e))
 
   -- from row p on stand an empty row or more, and the cycles of valid claims
   record Whole (p : ℕ) : Type 0 where
@@ -223,13 +200,11 @@ module _ (r : ℕ → Cells) (n : ℕ) (some : 0 < n) (holds : (i : ℕ) → i <
   From p = before r p ≡ fresh → Whole p
 
   drop-empty : (p : ℕ) → p < n → stamp p ≡ 0 → drop p rowsHere ≡ emptyRow ∷ drop (suc p) rowsHere
-  drop-empty p h e =
-      drop-cons rowsHere p (r p) (omega (arith, length-table n r))
-      ∙ ap (λ (x : Cells). x ∷ drop (suc p) rowsHere) (getD-table n r p (r p) h ∙ empty-is p h e)
+  drop-empty p h e = drop-first n r p h ∙ ap (λ (x : Cells). x ∷ drop (suc p) rowsHere) (empty-is p h e)
 
   from-first : (p : ℕ) → p < n → stamp p ≡ 0 → At n stamp ct last steps (suc p) 1 → From p
   from-first p h e a b =
-      let f : Found (suc p) 1 = found (suc p) 1 (omega arith) a in
+      let f : CyclesFrom (suc p) 1 = cycles-from (suc p) 1 (omega arith) a in
       let c : before r (suc p) ≡ fresh = before-empty r p (empty-is p h e) ∙ b in
       record {
         more = 0;
@@ -249,6 +224,7 @@ module _ (r : ℕ → Cells) (n : ℕ) (some : 0 < n) (holds : (i : ℕ) → i <
         stand = drop-empty p (omega arith) e ∙ ap (λ (l : List Cells). emptyRow ∷ l) (w .stand);
       }
 
+  -- rows that meet all constraints and fit are the trace of valid claims after an empty row or more
   pub rows-are-trace : (more : ℕ) × (cs : List Claim) × (Valid cs) × (table n r ≡ trace (suc more) cs)
   unfolding before trace
   rows-are-trace =

@@ -34,16 +34,15 @@ module _ (r : ℕ → Cells) (n i : ℕ) where
   broken-zero = (λ e. all-hold r n i (zero-pass 0 tests e), λ a. pass-zero 1 tests (λ j h. each r n i a j))
 
   -- any other number is that of the first constraint that fails there
-  broken-first : (m : ℕ) → brokenAt r n i ≡ suc m → FirstFails tests m
+  broken-first : (m : ℕ) → (brokenAt r n i ≡ suc m) ↔ FirstFails tests m
   unfolding brokenAt firstBroken
-  broken-first m e =
-      let (j, q, f) = some-fails 1 (suc m) tests e (omega arith) in
-      let p : j ≡ m = omega arith in
-      subst (FirstFails tests) p f
-
-  first-broken : (m : ℕ) → FirstFails tests m → brokenAt r n i ≡ suc m
-  unfolding brokenAt firstBroken
-  first-broken m f = omega (arith, fails-some 1 m tests f)
+  broken-first m = (there, λ f. omega (arith, fails-some 1 m tests f))
+    where
+      there : brokenAt r n i ≡ suc m → FirstFails tests m
+      there e =
+          let (j, q, f) = some-fails 1 (suc m) tests e (omega arith) in
+          let p : j ≡ m = omega arith in
+          subst (FirstFails tests) p f
 
 -- the rows below i meet the constraints exactly if all hold at each of them
 pub judged-meet : (r : ℕ → Cells) (n i : ℕ) → (judged (brokenAt r n) i ≡ meet) ↔ ((j : ℕ) → j < i → AllHold r n j)
@@ -51,7 +50,6 @@ judged-meet r n i =
     let (there, back) = judged-zero (brokenAt r n) i in
     (λ e j h. broken-zero r n j .0 (there e j h), λ a. back (λ j h. broken-zero r n j .1 (a j h)))
 
--- the judgement of all rows names the first broken constraint of the first row that breaks one
 module _ (r : ℕ → Cells) (n i : ℕ) where
   lower-holds : (m : ℕ) → FirstFails (tests r n i) m → (k : ℕ) → 1 ≤ k → k < suc m → Holds r n i k
   unfolding constraint
@@ -62,7 +60,7 @@ module _ (r : ℕ → Cells) (n i : ℕ) where
   unfolding constraint
   stops-first zero h s = absurd (omega (arith, s .from))
   stops-first (suc m) h s =
-      let f = broken-first r n i m (s .number) in
+      let f = broken-first r n i m .0 (s .number) in
       record {
         row = h;
         from = s .from;
@@ -77,10 +75,11 @@ module _ (r : ℕ → Cells) (n i : ℕ) where
   first-stops zero b = absurd (omega (arith, b .from))
   first-stops (suc m) b = record {
     from = b .from;
-    number = first-broken r n i m (record { fails = b .fails; lower = λ j h. b .lower (suc j) (omega arith) (omega arith) });
+    number = broken-first r n i m .1 (record { fails = b .fails; lower = λ j h. b .lower (suc j) (omega arith) (omega arith) });
     earlier = judged-meet r n i .1 (b .earlier);
   }
 
+  -- the judgement of all rows names the first broken constraint of the first row that breaks one
   pub judged-break : (k : ℕ) → (judged (brokenAt r n) n ≡ break i k) ↔ FirstBroken r n i k
   judged-break k =
       let (there, back) = judged-stops (brokenAt r n) n i k in
@@ -92,6 +91,7 @@ row-before-local : (r t : ℕ → Cells) (i : ℕ) → ((j : ℕ) → j < i → 
 row-before-local r t zero h = refl
 row-before-local r t (suc i) h = h i (omega arith)
 
+-- the states before a row depend on the rows below it
 pub before-local : (r t : ℕ → Cells) (i : ℕ) → ((j : ℕ) → j < i → r j ≡ t j) → before r i ≡ before t i
 unfolding before
 before-local r t zero h = refl
@@ -111,10 +111,12 @@ module _ (r t : ℕ → Cells) (n m i : ℕ) (h : (j : ℕ) → j ≤ i → r j 
         last = e p;
       }
 
+  -- so does the first broken constraint of a row
   pub first-broken-local : brokenAt r n i ≡ brokenAt t m i
   unfolding brokenAt
   first-broken-local = ap firstBroken view-local
 
+  -- and whether all hold there
   pub all-hold-local : AllHold r n i → AllHold t m i
   all-hold-local a k f g = ap (constraint k) (sym view-local) ∙ a k f g
 
@@ -140,11 +142,11 @@ module _ (l : List ℕ) where
       there : unfit ≡ true → (length l ≡ 0) ⊎ (rest ≢ 0)
       there e =
           ⊎-elim (λ z. inl (eqb-true (length l) 0 z)) (λ p. inr (eqb-false rest 0 (not-true (eqb rest 0) p)))
-          (either (eqb (length l) 0) (not (eqb rest 0)) e)
+          (either _ _ e)
 
       back : (length l ≡ 0) ⊎ (rest ≢ 0) → unfit ≡ true
-      back (inl z) = either-left (eqb (length l) 0) (not (eqb rest 0)) (eq-eqb (length l) 0 z)
-      back (inr p) = either-right (eqb (length l) 0) (not (eqb rest 0)) (ap not (ne-eqb rest 0 p))
+      back (inl z) = either-left _ _ (eq-eqb (length l) 0 z)
+      back (inr p) = either-right (eqb (length l) 0) _ (ap not (ne-eqb rest 0 p))
 
   unfit-false : (unfit ≡ false) ↔ ((0 < length l) × (rest ≡ 0))
   unfit-false = (there, λ (h, q). rw (ne-eqb (length l) 0 (omega arith), eq-eqb rest 0 q))
@@ -194,17 +196,21 @@ module _ (l : List ℕ) where
   verdict-is : (v : Verdict) → (verdict l ≡ v) ↔ Means v
   verdict-is v = (λ e. subst Means e verdict-says, says-verdict v)
 
+  -- accepted exactly if the size is right, all constraints hold at all rows, and the counts are the rows' counts
   pub verdict-accepted : (c : Counts) → (verdict l ≡ accepted c) ↔ Meets l c
   verdict-accepted c = verdict-is (accepted c)
 
+  -- broken at i, k exactly if the size is right, row i is the first that breaks a constraint, and k the first that it breaks
   pub verdict-broken : (i k : ℕ) → (verdict l ≡ broken i k) ↔ (WellSized l × FirstBroken (rowAt l) (length l / rowBytes) i k)
   verdict-broken i k = verdict-is (broken i k)
 
+  -- refused by number 9 exactly if there are no bytes or no whole number of rows
   pub refused-length : (verdict l ≡ refused badLength) ↔ ((length l ≡ 0) ⊎ (length l % rowBytes ≢ 0))
   refused-length =
       let (there, back) = verdict-is (refused badLength) in
       (λ e. ⊎-elim (λ p. p .1) (λ p. absurd (omega arith)) (there e), λ u. back (inl (refl, u)))
 
+  -- and by number 10 exactly if there are whole rows, but too many
   pub refused-rows : (verdict l ≡ refused tooManyRows) ↔ ((length l % rowBytes ≡ 0) × (maxRows < length l / rowBytes))
   refused-rows =
       let (there, back) = verdict-is (refused tooManyRows) in

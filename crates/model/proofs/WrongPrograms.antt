@@ -46,6 +46,7 @@ unfolding verdict judged brokenAt firstBroken firstFailed k1 k2 rowAt decode num
 broken-row = refl
 
 module _ (f : Checker) (e : ExactChecker f) where
+  -- an exact checker does not accept everything of a trace's size
   pub exact-not-accepts-all : ¬ AcceptsAll f
   exact-not-accepts-all a =
       let b : AllBytes (row 1) = row-bytes 1 tt in
@@ -53,6 +54,7 @@ module _ (f : Checker) (e : ExactChecker f) where
       let z : _≡_ {A = ℕ} 0 1 = cc (e (row 1) b, broken-row) in
       omega arith
 
+  -- and does not reject everything
   pub exact-not-rejects-all : ¬ RejectsAll f
   exact-not-rejects-all r =
       let b : AllBytes (row 0) = row-bytes 0 tt in
@@ -81,14 +83,17 @@ two-differ e =
     omega arith
 
 module _ (f : Filler) (e : ExactFiller f) where
+  -- an exact filler does not repeat the first cycle
   pub exact-not-repeats-first : ¬ RepeatsFirst f
   exact-not-repeats-first (g, p) =
       let a : Fits 1 (two 1) = two-fit 1 (omega arith) (omega arith) in
       let b : Fits 1 (two 2) = two-fit 2 (omega arith) (omega arith) in
       two-differ (cc (e 1 (two 1) a, e 1 (two 2) b, p 1 (nothing 1) (nothing 1 ∷ []) a, p 1 (nothing 1) (nothing 2 ∷ []) b))
 
+  -- does not write one fixed trace
   pub exact-not-writes-fixed : ¬ WritesFixed f
   exact-not-writes-fixed (t, p) = exact-not-repeats-first (λ n c k. t, λ n c cs. p n (c ∷ cs))
 
+  -- and does not write nothing
   pub exact-not-writes-nothing : ¬ WritesNothing f
   exact-not-writes-nothing p = exact-not-writes-fixed ([], p)
