@@ -20,7 +20,7 @@ use Rattle.model.specs.Cycles.{Cycle, rowsIn, cycles, Claim, claimOf, in
 use Rattle.model.specs.Cycles.{instructionPart, instructionClaim, lastState, nextRow, step}
 use Rattle.model.specs.Promises.{Valid, Fits, Accepted, emptyIn, claimsIn, Carries}
 use Rattle.model.specs.State.{Context, fresh}
-use Rattle.model.specs.Trace.{inBounds, lastOf, cycleOf, cyclesOf, afterClaims, trace, traceBytes}
+use Rattle.model.specs.Trace.{inBounds, lastOf, cycleOf, cyclesOf, afterClaims, trace, traceBytes, cycleAfter}
 use Rattle.model.proofs.AloneLaws.{after-reached, alone-same, marks, row-alone, out-adds-nothing, row-by-paper}
 use Rattle.model.proofs.ExactlyOne.{rows-own, accepted-own, trace-carries}
 use Rattle.model.proofs.JoinLaws.{length-cycle, length-trace, bytes-snoc, cut-le, bytes-cut}
@@ -195,13 +195,12 @@ module _ (l : List ℕ) (a : Accepted l) where
   cut-carries k h = rw (cut-is k h) (trace-carries n (take k cs) (fits-take n k cs (accepted-own l a .fits)))
 
   -- the trace with one claim more is the trace followed by that claim's cycle
-  pub join-is : (c : Claim) → traceBytes n (cs ++ (c ∷ [])) ≡ l ++ bytesOf (cycleOf (suc (length cs)) (afterClaims fresh cs (c .context)) c)
-  join-is c =
-      bytes-snoc n cs c ∙ ap (λ (m : List ℕ). m ++ bytesOf (cycleOf (suc (length cs)) (afterClaims fresh cs (c .context)) c)) (sym own-bytes)
+  pub join-is : (c : Claim) → traceBytes n (cs ++ (c ∷ [])) ≡ l ++ bytesOf (cycleAfter cs c)
+  join-is c = bytes-snoc n cs c ∙ ap (λ (m : List ℕ). m ++ bytesOf (cycleAfter cs c)) (sym own-bytes)
 
   -- and is accepted with just these claims, where they fit
   pub join-carries : (c : Claim) → Fits n (cs ++ (c ∷ []))
-      → Carries n (cs ++ (c ∷ [])) (l ++ bytesOf (cycleOf (suc (length cs)) (afterClaims fresh cs (c .context)) c))
+      → Carries n (cs ++ (c ∷ [])) (l ++ bytesOf (cycleAfter cs c))
   join-carries c f = rw (← join-is c) (trace-carries n (cs ++ (c ∷ [])) f)
 
   -- ---- the last state

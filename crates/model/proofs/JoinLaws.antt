@@ -10,9 +10,10 @@ use lib.Seq.{take-append-seam}
 use Rattle.model.specs.Columns.{bytesOf}
 use Rattle.model.specs.Constraints.{inLast, outLast}
 use Rattle.model.specs.Cycles.{Claim, count}
+use Rattle.model.specs.Promises.{countIn, countOut}
 use Rattle.model.specs.State.{Context, State, fresh}
 use Rattle.model.specs.Tests.{pick}
-use Rattle.model.specs.Trace.{inBounds, lastOf, rowOf, cycleOf, afterClaim, afterClaims, cyclesOf, trace, traceBytes}
+use Rattle.model.specs.Trace.{inBounds, lastOf, rowOf, cycleOf, afterClaim, afterClaims, cycleAfter, cyclesOf, trace, traceBytes}
 use Rattle.model.specs.Verdict.{maxRows}
 use Rattle.model.proofs.RowBytes.{length-bytes, bytes-append, bytes-take}
 use Rattle.model.proofs.TableOf.{length-table}
@@ -28,13 +29,6 @@ length-cycle stamp s c = length-table (suc (lastOf c)) (rowOf stamp s c)
 pub length-trace : (n : ℕ) (cs : List Claim) → length (trace n cs) ≡ n + length (cyclesOf 1 fresh cs)
 unfolding trace
 length-trace n cs = rw (length-append, length-replicate)
-
--- claims in bounds and out of bounds
-abbrev countIn : List Claim → ℕ
-countIn cs = count inBounds cs
-
-abbrev countOut : List Claim → ℕ
-countOut cs = count (λ (c : Claim). not (inBounds c)) cs
 
 -- a claim has 3 rows if it is in bounds, else 17
 length-next : (t : Bool) (c : Claim) (m a b : ℕ) → inBounds c ≡ t → m ≡ suc inLast * a + suc outLast * b
@@ -52,13 +46,12 @@ length-cycles stamp states (c ∷ cs) =
     (length-next (inBounds c) c _ (countIn cs) (countOut cs) refl (length-cycles (suc stamp) (afterClaim states c) cs))
 
 -- a trace has its empty rows, 3 rows for each claim in bounds and 17 for each out of bounds
-pub rows-of-trace : (n : ℕ) (cs : List Claim)
-    → length (trace n cs) ≡ n + (suc inLast * count inBounds cs + suc outLast * count (λ (c : Claim). not (inBounds c)) cs)
+pub rows-of-trace : (n : ℕ) (cs : List Claim) → length (trace n cs) ≡ n + (suc inLast * countIn cs + suc outLast * countOut cs)
 rows-of-trace n cs = rw (length-trace, length-cycles 1 fresh cs)
 
 -- 21,845 in-bounds instructions and one empty row fill a trace, and one more does not fit
-pub full-trace : (cs : List Claim) → count (λ (c : Claim). not (inBounds c)) cs ≡ 0
-    → ((count inBounds cs ≡ 21845) → length (trace 1 cs) ≡ maxRows) × ((21845 < count inBounds cs) → maxRows < length (trace 1 cs))
+pub full-trace : (cs : List Claim) → countOut cs ≡ 0
+    → ((countIn cs ≡ 21845) → length (trace 1 cs) ≡ maxRows) × ((21845 < countIn cs) → maxRows < length (trace 1 cs))
 full-trace cs e = (λ h. omega (arith, rows-of-trace 1 cs), λ h. omega (arith, rows-of-trace 1 cs))
 
 -- ---- joined
@@ -83,14 +76,12 @@ unfolding trace
 trace-append n cs ds = rw (append-assoc, cycles-append 1 fresh cs ds, suc-add, zero-add)
 
 -- one claim more adds its cycle
-pub trace-snoc : (n : ℕ) (cs : List Claim) (c : Claim)
-    → trace n (cs ++ (c ∷ [])) ≡ trace n cs ++ cycleOf (suc (length cs)) (afterClaims fresh cs (c .context)) c
+pub trace-snoc : (n : ℕ) (cs : List Claim) (c : Claim) → trace n (cs ++ (c ∷ [])) ≡ trace n cs ++ cycleAfter cs c
 unfolding cyclesOf
 trace-snoc n cs c = rw (trace-append n cs (c ∷ []), append-nil)
 
 -- and the bytes of it
-pub bytes-snoc : (n : ℕ) (cs : List Claim) (c : Claim)
-    → traceBytes n (cs ++ (c ∷ [])) ≡ traceBytes n cs ++ bytesOf (cycleOf (suc (length cs)) (afterClaims fresh cs (c .context)) c)
+pub bytes-snoc : (n : ℕ) (cs : List Claim) (c : Claim) → traceBytes n (cs ++ (c ∷ [])) ≡ traceBytes n cs ++ bytesOf (cycleAfter cs c)
 unfolding traceBytes
 bytes-snoc n cs c = rw (trace-snoc n cs c, bytes-append)
 

@@ -67,9 +67,16 @@ pub record Fits (n : ℕ) (cs : List Claim) : Type 0 where
   pub valid : Valid cs
   pub rows : length (trace n cs) ≤ maxRows
 
+-- how many of the claims are in bounds, and how many are not
+abbrev pub countIn : List Claim → ℕ
+countIn cs = count inBounds cs
+
+abbrev pub countOut : List Claim → ℕ
+countOut cs = count (λ c. not (inBounds c)) cs
+
 -- the counts of claims after so many empty rows
 abbrev pub countsOf : ℕ → List Claim → Counts
-countsOf empty cs = record { instructions = length cs; oob = count (λ c. not (inBounds c)) cs; empty = empty }
+countsOf empty cs = record { instructions = length cs; oob = countOut cs; empty = empty }
 
 -- ---- a byte string as a trace
 

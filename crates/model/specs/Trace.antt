@@ -3,7 +3,7 @@ use Prim.Native.Nat.{ℕ, zero, suc, _+_, _-_, _/_, _%_, _^_, max}
 use mathlib.Core.Bool.{Bool, _&&_}
 use mathlib.Core.List.{List, [], _∷_, _++_}
 use lib.Dec.{ltb, leb}
-use lib.ListN.{replicate}
+use lib.ListN.{length, replicate}
 use Rattle.number.specs.Sums.{prefixAt, digitAt}
 use Rattle.number.specs.Whole.{bound}
 use Rattle.gas.specs.Gas.{wordBytes, Parts, words, cost, split}
@@ -173,3 +173,7 @@ traceBytes empty cs = bytesOf (trace empty cs)
 unfoldable pub afterClaims : (Context → State) → List Claim → Context → State
 afterClaims states [] = states
 afterClaims states (c ∷ cs) = afterClaims (afterClaim states c) cs
+
+-- the cycle of one claim more: the next stamp, at the state that its context was left in
+abbrev pub cycleAfter : List Claim → Claim → List Cells
+cycleAfter done c = cycleOf (suc (length done)) (afterClaims fresh done (c .context)) c
