@@ -6,7 +6,7 @@ use mathlib.Core.List.{List, [], _∷_}
 use mathlib.Core.Logic.{_≢_}
 use mathlib.Core.Path.{_≡_, refl, sym, _∙_, ap, ap₂}
 use native.Mathlib.Nat.{not-suc-le-zero}
-use lib.Dec.{T, eqb, eqb→eq, ltb, ltb→lt}
+use lib.Dec.{T, eqb, eqb→eq, ltb, ltb→lt, leb, leb→le}
 use lib.ListN.{length, set}
 use lib.Seq.{getD-set-other}
 use Rattle.number.specs.Cells.{total, encode, decode, Fit}
@@ -27,7 +27,7 @@ use Rattle.model.specs.Steps.{stampMoves, ctMoves}
 use Rattle.model.specs.Tests.{pick, isDifference, sumsUp}
 use Rattle.model.specs.Trace.{inBounds, lastOf, apart, above, lastWord, lastByte, square, reach, inRow, beyondEnd, outRow}
 use Rattle.model.specs.Trace.{rowOf, cycleOf, after, cyclesOf, trace, traceBytes}
-use Rattle.model.specs.Verdict.{passed, before, view, brokenAt, Judgement, meet, break, judged}
+use Rattle.model.specs.Verdict.{passed, before, view, brokenAt, Judgement, meet, break, judged, maxRows}
 use Rattle.model.proofs.RowBytes.{AllFit}
 use Rattle.model.proofs.TableOf.{length-table, getD-table}
 use Rattle.model.proofs.TestFacts.{all-at}
@@ -118,6 +118,10 @@ module _ (k : ℕ) (xs : List Cells) where
 judgedRight : Witness → Bool
 judgedRight w = same (judgedRows (w .shown)) (w .judgement)
 
+-- as many rows as a trace may have
+hasSize : Witness → Bool
+hasSize w = ltb 0 (length (w .shown)) && leb (length (w .shown)) maxRows
+
 allFit : Witness → Bool
 allFit w = every rowFits (w .shown)
 
@@ -141,17 +145,18 @@ brokenAlone k = every (othersMet k (entry (found k) .shown)) (below (length (ent
 -- what the kernel computes
 record Computed : Type 0 where
   judged : T (every judgedRight witnesses)
+  sized : T (every hasSize witnesses)
   fit : T (every allFit witnesses)
   found : T (every isFound (below constraintCount))
   alone : T (every brokenAlone (below constraintCount))
 
 computed : Computed
-unfolding same names fits rowFits othersMet judgedRight allFit find isFound brokenAlone
+unfolding same names fits rowFits othersMet judgedRight hasSize allFit find isFound brokenAlone
     prefixAt digitAt words cost split joined table lastCt inUse equal stays grows firstFailed firstBroken
     k1 k2 k3 k4 k5 k6 k7 k8 k9 k10 k11 k12 k13 k14 k15 k16 k17 k18 k19 k20 k21 k22 k23 k24 k25 k26
     sameContext put stampMoves ctMoves isDifference sumsUp inBounds lastOf apart above lastWord lastByte square reach inRow beyondEnd outRow
     rowOf cycleOf after cyclesOf trace passed before brokenAt judged
-computed = record { judged = tt; fit = tt; found = tt; alone = tt }
+computed = record { judged = tt; sized = tt; fit = tt; found = tt; alone = tt }
 
 -- each entry is judged as it says
 pub witnesses-hold : (k : ℕ) → k < length witnesses → Says (entry k)
@@ -162,6 +167,14 @@ witnesses-hold k h = same-path (judgedRows (entry k .shown)) (entry k .judgement
 pub witnesses-fit : (k : ℕ) → k < length witnesses → AllFit (entry k .shown)
 unfolding allFit
 witnesses-fit k h = all-fit (entry k .shown) (every-at allFit witnesses (computed .fit) k noEntry h)
+
+-- and it has as many rows as a trace may have
+pub witnesses-sized : (k : ℕ) → k < length witnesses → (0 < length (entry k .shown)) × (length (entry k .shown) ≤ maxRows)
+unfolding hasSize
+witnesses-sized k h =
+    let m : ℕ = length (entry k .shown) in
+    let t = every-at hasSize witnesses (computed .sized) k noEntry h in
+    (ltb→lt 0 m (and-left (ltb 0 m) (leb m maxRows) t), leb→le m maxRows (and-right (ltb 0 m) (leb m maxRows) t))
 
 -- each constraint is broken alone by some entry, so none of them can be left out
 pub each-alone : (k : ℕ) → 1 ≤ k → k ≤ constraintCount → (n : ℕ) × (n < length witnesses) × BreaksOnly k (entry n .shown)

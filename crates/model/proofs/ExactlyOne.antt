@@ -2,24 +2,25 @@
 -- bytes are.
 use Prim.Native.Nat.{ℕ, suc, _*_, _/_, _^_, _<_, _≤_}
 use mathlib.Core.List.{List, [], _∷_}
-use mathlib.Core.Path.{_≡_, refl, sym, _∙_, ap, ap₂}
+use mathlib.Core.Path.{_≡_, sym, _∙_, ap, ap₂}
 use native.Mathlib.Omega.{arith}
-use lib.ListN.{length, getD}
+use lib.ListN.{length}
 use Rattle.number.specs.Cells.{total}
 use Rattle.number.specs.Num.{AllBytes}
-use Rattle.model.specs.Columns.{Cells, emptyRow, rowBytes, rowAt, table, rowsOf, bytesOf}
+use Rattle.model.specs.Columns.{Cells, rowBytes, rowAt, table, rowsOf, bytesOf}
 use Rattle.model.specs.Cycles.{Cycle, starts, cyclesFrom, Claim, Counts, claims, emptyRows, counts}
-use Rattle.model.specs.Promises.{AllHold, WellSized, Meets, Valid, Fits, countsOf, Accepted, emptyIn, claimsIn, Carries, Own}
+use Rattle.model.specs.Promises.{Meets, Valid, Fits, countsOf, Accepted, emptyIn, claimsIn, Carries, Own}
 use Rattle.model.specs.Trace.{trace, traceBytes}
-use Rattle.model.specs.Verdict.{accepted, verdict}
+use Rattle.model.specs.Verdict.{accepted, verdictBy, verdict}
 use Rattle.model.proofs.FitLaws.{trace-fits}
 use Rattle.model.proofs.JoinLaws.{length-trace}
 use Rattle.model.proofs.ReadBack.{claims-trace, instructions-trace, empty-trace, counts-trace}
-use Rattle.model.proofs.RowBytes.{AllFit, length-rows, row-fits, length-bytes, bytes-are-bytes, row-back, rows-back, bytes-back}
+use Rattle.model.proofs.RowBytes.{AllFit, length-rows, row-fits, bytes-are-bytes, rows-back, bytes-back}
+use Rattle.model.proofs.RowsVerdict.{verdict-of-rows}
 use Rattle.model.proofs.TestFacts.{pick-has}
 use Rattle.model.proofs.TraceMeets.{trace-holds}
 use Rattle.model.proofs.TraceUnique.{rows-are-trace}
-use Rattle.model.proofs.VerdictLaws.{all-hold-local, verdict-accepted}
+use Rattle.model.proofs.VerdictLaws.{judged-meet, verdict-accepted}
 
 -- ---- existence
 
@@ -48,33 +49,13 @@ module _ (n : ℕ) (cs : List Claim) (f : Fits n cs) where
   unfolding traceBytes
   rows-read = rows-back rows fit
 
-  bytes-length : length l ≡ length rows * rowBytes
-  unfolding traceBytes
-  bytes-length = length-bytes rows
-
-  rows-length : length l / rowBytes ≡ length rows
-  rows-length = sym (length-rows l) ∙ ap length rows-read
-
-  sized : WellSized l
-  unfolding total
-  sized = record {
-    some = omega (arith, bytes-length, length-trace n cs, f .some);
-    whole = omega (arith, bytes-length);
-    rows = rw rows-length (f .rows);
-  }
-
-  holds-read : (i : ℕ) → i < length rows → AllHold (rowAt l) (length rows) i
-  unfolding traceBytes
-  holds-read i h =
-      all-hold-local (λ j. getD rows j emptyRow) (rowAt l) (length rows) (length rows) i (λ j k. sym (row-back rows j fit (omega arith))) refl
-      (trace-holds n cs (f .some) (f .valid) i h)
-
-  counts-read : counts (rowsOf l) ≡ countsOf n cs
-  counts-read = ap counts rows-read ∙ counts-trace n cs
-
   -- the trace is accepted, with the counts of its claims
   pub trace-accepted : verdict l ≡ accepted (countsOf n cs)
-  trace-accepted = verdict-accepted l (countsOf n cs) .1 (record { sized = sized; holds = rw rows-length holds-read; counted = sym counts-read })
+  unfolding traceBytes
+  trace-accepted =
+      let some : 0 < length rows = omega (arith, length-trace n cs, f .some) in
+      verdict-of-rows rows fit some (f .rows)
+      ∙ ap₂ verdictBy (judged-meet _ (length rows) (length rows) .1 (trace-holds n cs (f .some) (f .valid))) (counts-trace n cs)
 
   -- the claims that are read back from it are these
   pub claims-read : claimsIn l ≡ cs
@@ -87,7 +68,7 @@ module _ (n : ℕ) (cs : List Claim) (f : Fits n cs) where
   -- it carries just these empty rows and claims
   pub trace-carries : Carries n cs l
   trace-carries = record {
-    accepted = record { bytes = all-bytes; verdict = trace-accepted ∙ ap accepted (sym counts-read) };
+    accepted = record { bytes = all-bytes; verdict = trace-accepted ∙ ap accepted (sym (ap counts rows-read ∙ counts-trace n cs)) };
     empty = ap emptyRows rows-read ∙ empty-trace n cs;
     claims = claims-read;
   }

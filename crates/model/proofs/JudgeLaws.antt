@@ -126,3 +126,9 @@ module _ (first : ℕ → ℕ) where
       back zero (h, s) = absurd (omega arith)
       back (suc m) (h, s) =
           ⊎-elim (λ q. rw (← q, s .earlier, s .number, and-some i k (s .from))) (λ l. rw (back m (l, s))) (eq-or-lt-of-le (le-of-suc-le-suc h))
+
+-- it looks at the rows below i alone
+pub judged-local : (first other : ℕ → ℕ) (i : ℕ) → ((j : ℕ) → j < i → first j ≡ other j) → judged first i ≡ judged other i
+unfolding judged
+judged-local first other zero h = refl
+judged-local first other (suc i) h = rw (judged-local first other i (λ j l. h j (omega arith)), h i (omega arith))

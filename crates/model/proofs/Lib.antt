@@ -20,6 +20,7 @@ pub mod CycleMeets
 pub mod TraceMeets
 pub mod JudgeLaws
 pub mod VerdictLaws
+pub mod RowsVerdict
 pub mod ExactlyOne
 pub mod AloneLaws
 pub mod LastState
@@ -27,3 +28,4 @@ pub mod LatestCycle
 pub mod InstructionLaws
 pub mod WrongPrograms
 pub mod AdverseLaws
+pub mod AdverseVerdicts

@@ -178,7 +178,8 @@ module _ (l : List ℕ) where
       go false p false q meet e = record { sized = sized p q; holds = judged-meet (rowAt l) rows rows .0 e; counted = refl }
       go false p false q (break i k) e = (sized p q, judged-break (rowAt l) rows i k .0 e)
 
-  sized-verdict : WellSized l → verdict l ≡ verdictBy (judged (brokenAt (rowAt l) rows) rows) (counts (rowsOf l))
+  -- the verdict on whole rows, one to 65,536 of them, is the judgement on them
+  pub sized-verdict : WellSized l → verdict l ≡ verdictBy (judged (brokenAt (rowAt l) rows) rows) (counts (rowsOf l))
   unfolding verdict
   sized-verdict w = rw (unfit-false .1 (w .some, w .whole), le-ltb maxRows rows (w .rows))
 
