@@ -12,4 +12,5 @@ use Rattle.model.proofs.RowsVerdict.{verdict-of-rows}
 pub witnesses-verdict : (k : ℕ) → k < length witnesses → verdict (bytesOf (entry k .shown)) ≡ verdictBy (entry k .judgement) (counts (entry k .shown))
 witnesses-verdict k h =
     let s = witnesses-sized k h in
-    verdict-of-rows (entry k .shown) (witnesses-fit k h) (s .0) (s .1) ∙ ap (λ (j : Judgement). verdictBy j (counts (entry k .shown))) (witnesses-hold k h)
+    verdict-of-rows (entry k .shown) (witnesses-fit k h) (s .0) (s .1)
+    ∙ ap (λ (j : Judgement). verdictBy j (counts (entry k .shown))) (witnesses-hold k h)

@@ -32,5 +32,5 @@ module _ (rows : List Cells) (fit : AllFit rows) (some : 0 < length rows) (room 
 
   pub verdict-of-rows : verdict l ≡ verdictBy (judged (brokenAt rowIn (length rows)) (length rows)) (counts rows)
   verdict-of-rows =
-      rw rows-length at (sized-verdict l sized)
-      ∙ ap₂ verdictBy (judged-local (brokenAt (rowAt l) (length rows)) (brokenAt rowIn (length rows)) (length rows) broken-same) (ap counts (rows-back rows fit))
+      let same = judged-local (brokenAt (rowAt l) (length rows)) (brokenAt rowIn (length rows)) (length rows) broken-same in
+      rw rows-length at (sized-verdict l sized) ∙ ap₂ verdictBy same (ap counts (rows-back rows fit))
