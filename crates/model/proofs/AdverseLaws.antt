@@ -15,8 +15,8 @@ use Rattle.number.specs.Sums.{prefixAt, digitAt}
 use Rattle.number.specs.Tables.{every}
 use Rattle.number.proofs.TableLaws.{every-at, and-left, and-right}
 use Rattle.gas.specs.Gas.{words, cost, split, joined}
-use Rattle.model.specs.Adverse.{rowIn, judgedRows, BreaksOnly, Witness, Says, sample, witnesses, noEntry, entry, nextRows}
-use Rattle.model.specs.Columns.{Cells, columns, cellsIn, widths, rowAt, table, bytesOf}
+use Rattle.model.specs.Adverse.{BreaksOnly, Witness, Says, sample, witnesses, noEntry, entry, nextRows}
+use Rattle.model.specs.Columns.{Cells, columns, cellsIn, widths, rowIn, rowAt, table, bytesOf}
 use Rattle.model.specs.Constraints.{lastCt, inUse, equal, stays, grows, constraints, constraint, firstFailed, firstBroken}
 use Rattle.model.specs.Constraints.{k1, k2, k3, k4, k5, k6, k7, k8, k9, k10, k11, k12, k13}
 use Rattle.model.specs.Constraints.{k14, k15, k16, k17, k18, k19, k20, k21, k22, k23, k24, k25, k26}
@@ -27,7 +27,7 @@ use Rattle.model.specs.Steps.{stampMoves, ctMoves}
 use Rattle.model.specs.Tests.{pick, isDifference, sumsUp}
 use Rattle.model.specs.Trace.{inBounds, lastOf, apart, above, lastWord, lastByte, square, reach, inRow, beyondEnd, outRow}
 use Rattle.model.specs.Trace.{rowOf, cycleOf, after, cyclesOf, trace, traceBytes}
-use Rattle.model.specs.Verdict.{passed, before, view, brokenAt, Judgement, meet, break, judged, maxRows}
+use Rattle.model.specs.Verdict.{passed, before, view, brokenAt, Judgement, meet, break, judged, judgedRows, maxRows}
 use Rattle.model.proofs.RowBytes.{AllFit}
 use Rattle.model.proofs.TableOf.{length-table, getD-table}
 use Rattle.model.proofs.TestFacts.{all-at}

@@ -14,7 +14,7 @@ use Rattle.number.specs.Whole.{bound}
 use Rattle.number.proofs.TestLaws.{both-intro}
 use Rattle.gas.specs.Gas.{words, cost}
 use Rattle.model.specs.Alone.{reached, ownClaims, rowAfter, Alone, ByPaper, SameCharge}
-use Rattle.model.specs.Columns.{Cells, emptyRow, rowBytes, rowAt, rowsOf, bytesOf}
+use Rattle.model.specs.Columns.{Cells, emptyRow, rowBytes, rowAt, rowsOf, bytesOf, rowIn}
 use Rattle.model.specs.Constraints.{lastCt}
 use Rattle.model.specs.Cycles.{Cycle, rowsIn, cycles, Claim, claimOf, instruction, part, isInstruction}
 use Rattle.model.specs.Cycles.{instructionPart, instructionClaim, lastState, nextRow, step}
@@ -124,10 +124,10 @@ module _ (l : List ℕ) (a : Accepted l) where
     unfolding cycleOf
     row-is i m =
         let p : ℕ = length (trace n done) in
-        let t : getD (take (suc (lastOf c)) (drop p (trace n cs))) i emptyRow ≡ getD (trace n cs) (p + i) emptyRow =
+        let t : rowIn (take (suc (lastOf c)) (drop p (trace n cs))) i ≡ rowIn (trace n cs) (p + i) =
         getD-take (suc (lastOf c)) (drop p (trace n cs)) i emptyRow (omega arith) ∙ getD-drop p (trace n cs) i emptyRow in
-        rw first-is (row-of-rows l (p + i) (omega (arith, inside, read length)) ∙ read (λ rows. getD rows (p + i) emptyRow) ∙ sym t
-        ∙ ap (λ (rows : List Cells). getD rows i emptyRow) rows-of ∙ getD-table (suc (lastOf c)) (rowAfter (suc k) done c) i emptyRow (omega arith))
+        rw first-is (row-of-rows l (p + i) (omega (arith, inside, read length)) ∙ read (λ rows. rowIn rows (p + i)) ∙ sym t
+        ∙ ap (λ (rows : List Cells). rowIn rows i) rows-of ∙ getD-table (suc (lastOf c)) (rowAfter (suc k) done c) i emptyRow (omega arith))
 
     module _ (i : ℕ) (m : i ≤ lastOf c) where
       abbrev row : Cells

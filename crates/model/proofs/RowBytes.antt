@@ -4,13 +4,13 @@ use mathlib.Core.List.{List, [], _∷_, _++_, append-assoc, append-nil}
 use mathlib.Core.Path.{_≡_, refl, sym, _∙_, ap}
 use native.Mathlib.Nat.{le-of-suc-le-suc, not-suc-le-zero, zero-mul}
 use native.Mathlib.Omega.{arith}
-use lib.ListN.{length, take, drop, getD, length-append, length-drop, take-append-drop}
+use lib.ListN.{length, take, drop, length-append, length-drop, take-append-drop}
 use lib.Seq.{take-add, take-all, split-at, take-at, drop-at, length-take-le}
 use Rattle.number.specs.Cells.{total, encode, decode, Fit}
 use Rattle.number.specs.Num.{be, AllBytes}
 use Rattle.number.proofs.CellLaws.{length-encode, encode-decode, decode-encode, decode-fit}
 use Rattle.number.proofs.NumLaws.{be-bytes}
-use Rattle.model.specs.Columns.{Cells, columns, cellsIn, widths, rowBytes, ofList, emptyRow, rowAt, table, rowsOf, bytesOf}
+use Rattle.model.specs.Columns.{Cells, columns, cellsIn, widths, rowBytes, ofList, emptyRow, rowAt, table, rowsOf, bytesOf, rowIn}
 use Rattle.model.proofs.TableOf.{length-table, getD-table, table-path, table-snoc, table-of-list}
 
 -- ---- rows that are read
@@ -21,7 +21,7 @@ unfolding rowsOf
 length-rows l = length-table (length l / rowBytes) (rowAt l)
 
 -- each is read at its place
-pub row-of-rows : (l : List ℕ) (i : ℕ) → i < length (rowsOf l) → rowAt l i ≡ getD (rowsOf l) i emptyRow
+pub row-of-rows : (l : List ℕ) (i : ℕ) → i < length (rowsOf l) → rowAt l i ≡ rowIn (rowsOf l) i
 unfolding rowsOf
 row-of-rows l i h = sym (getD-table (length l / rowBytes) (rowAt l) i emptyRow (rw (length-rows l) at h))
 
@@ -77,7 +77,7 @@ abbrev pub AllFit : List Cells → Type 0
 AllFit [] = Unit
 AllFit (x ∷ xs) = Fit widths (cellsIn columns x) × AllFit xs
 
-fit-at : (rows : List Cells) (i : ℕ) → AllFit rows → i < length rows → Fit widths (cellsIn columns (getD rows i emptyRow))
+fit-at : (rows : List Cells) (i : ℕ) → AllFit rows → i < length rows → Fit widths (cellsIn columns (rowIn rows i))
 fit-at [] i f h = absurd (not-suc-le-zero h)
 fit-at (x ∷ xs) zero f h = f .0
 fit-at (x ∷ xs) (suc i) f h = fit-at xs i (f .1) (le-of-suc-le-suc h)
@@ -89,10 +89,10 @@ unfolding rowAt
 row-at l k i x e f = rw (← e) (ap ofList (decode-encode widths (cellsIn columns x) l k f))
 
 -- each row that fits is read back from the bytes
-pub row-back : (rows : List Cells) (i : ℕ) → AllFit rows → i < length rows → rowAt (bytesOf rows) i ≡ getD rows i emptyRow
+pub row-back : (rows : List Cells) (i : ℕ) → AllFit rows → i < length rows → rowAt (bytesOf rows) i ≡ rowIn rows i
 unfolding bytesOf
 row-back rows i f h =
-    let x : Cells = getD rows i emptyRow in
+    let x : Cells = rowIn rows i in
     let e = ap bytesOf (split-at rows i emptyRow h) ∙ bytes-append (take i rows) (x ∷ drop (suc i) rows) in
     rw e (row-at (bytesOf (take i rows)) (bytesOf (drop (suc i) rows)) i x (length-first rows i (omega arith)) (fit-at rows i f h))
 
@@ -101,7 +101,7 @@ pub rows-back : (rows : List Cells) → AllFit rows → rowsOf (bytesOf rows) �
 unfolding rowsOf total
 rows-back rows f =
     let n : length (bytesOf rows) / rowBytes ≡ length rows = omega (arith, length-bytes rows) in
-    rw n (table-path (length rows) (rowAt (bytesOf rows)) (λ i. getD rows i emptyRow) (λ i h. row-back rows i f h) ∙ table-of-list rows emptyRow)
+    rw n (table-path (length rows) (rowAt (bytesOf rows)) (λ i. rowIn rows i) (λ i h. row-back rows i f h) ∙ table-of-list rows emptyRow)
 
 -- ---- bytes that were read as rows are written back
 

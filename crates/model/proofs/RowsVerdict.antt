@@ -3,12 +3,12 @@ use Prim.Native.Nat.{ℕ, _/_, _<_, _≤_}
 use mathlib.Core.List.{List}
 use mathlib.Core.Path.{_≡_, refl, sym, _∙_, ap, ap₂}
 use native.Mathlib.Omega.{arith}
-use lib.ListN.{length, getD}
+use lib.ListN.{length}
 use Rattle.number.specs.Cells.{total}
-use Rattle.model.specs.Columns.{Cells, emptyRow, rowBytes, rowAt, bytesOf}
+use Rattle.model.specs.Columns.{Cells, rowIn, rowBytes, rowAt, bytesOf}
 use Rattle.model.specs.Cycles.{counts}
 use Rattle.model.specs.Promises.{WellSized}
-use Rattle.model.specs.Verdict.{brokenAt, judged, maxRows, verdictBy, verdict}
+use Rattle.model.specs.Verdict.{brokenAt, judgedRows, maxRows, verdictBy, verdict}
 use Rattle.model.proofs.JudgeLaws.{judged-local}
 use Rattle.model.proofs.RowBytes.{AllFit, length-rows, length-bytes, row-back, rows-back}
 use Rattle.model.proofs.VerdictLaws.{first-broken-local, sized-verdict}
@@ -17,9 +17,6 @@ module _ (rows : List Cells) (fit : AllFit rows) (some : 0 < length rows) (room 
   abbrev l : List ℕ
   l = bytesOf rows
 
-  abbrev rowIn : ℕ → Cells
-  rowIn i = getD rows i emptyRow
-
   rows-length : length l / rowBytes ≡ length rows
   rows-length = sym (length-rows l) ∙ ap length (rows-back rows fit)
 
@@ -27,10 +24,10 @@ module _ (rows : List Cells) (fit : AllFit rows) (some : 0 < length rows) (room 
   unfolding total
   sized = record { some = omega (arith, length-bytes rows); whole = omega (arith, length-bytes rows); rows = rw rows-length room }
 
-  broken-same : (i : ℕ) → i < length rows → brokenAt (rowAt l) (length rows) i ≡ brokenAt rowIn (length rows) i
-  broken-same i h = first-broken-local (rowAt l) rowIn (length rows) (length rows) i (λ j k. row-back rows j fit (omega arith)) refl
+  broken-same : (i : ℕ) → i < length rows → brokenAt (rowAt l) (length rows) i ≡ brokenAt (rowIn rows) (length rows) i
+  broken-same i h = first-broken-local (rowAt l) (rowIn rows) (length rows) (length rows) i (λ j k. row-back rows j fit (omega arith)) refl
 
-  pub verdict-of-rows : verdict l ≡ verdictBy (judged (brokenAt rowIn (length rows)) (length rows)) (counts rows)
+  pub verdict-of-rows : verdict l ≡ verdictBy (judgedRows rows) (counts rows)
   verdict-of-rows =
-      let same = judged-local (brokenAt (rowAt l) (length rows)) (brokenAt rowIn (length rows)) (length rows) broken-same in
+      let same = judged-local (brokenAt (rowAt l) (length rows)) (brokenAt (rowIn rows) (length rows)) (length rows) broken-same in
       rw rows-length at (sized-verdict l sized) ∙ ap₂ verdictBy same (ap counts (rows-back rows fit))

@@ -8,9 +8,9 @@ use native.Mathlib.Nat.{add-suc, add-zero, add-assoc, suc-ne-zero, zero-add}
 use native.Mathlib.Omega.{arith}
 use borrow.Author.Tests.{eqb-true, ne-eqb}
 use lib.Dec.{eqb}
-use lib.ListN.{length, getD, replicate, length-append, length-replicate, getD-replicate, List·getD-append}
+use lib.ListN.{length, replicate, length-append, length-replicate, getD-replicate, List·getD-append}
 use lib.Seq.{getD-append-add}
-use Rattle.model.specs.Columns.{Cells, emptyRow}
+use Rattle.model.specs.Columns.{Cells, emptyRow, rowIn}
 use Rattle.model.specs.Constraints.{inUse, constraints, k1, k2, k3, k4, k5, k6, k26}
 use Rattle.model.specs.Cycles.{Claim}
 use Rattle.model.specs.Promises.{AllHold, ValidClaim, Valid}
@@ -30,7 +30,7 @@ use Rattle.model.proofs.TestFacts.{all-at}
 
 -- rows stand at p
 abbrev Stands : (ℕ → Cells) → ℕ → List Cells → Type 0
-Stands r p rows = (i : ℕ) → i < length rows → r (p + i) ≡ getD rows i emptyRow
+Stands r p rows = (i : ℕ) → i < length rows → r (p + i) ≡ rowIn rows i
 
 stands-first : (r : ℕ → Cells) (p : ℕ) (xs ys : List Cells) → Stands r p (xs ++ ys) → Stands r p xs
 stands-first r p xs ys h i l = h i (omega (arith, length-append xs ys)) ∙ List·getD-append xs ys emptyRow i l
@@ -148,40 +148,40 @@ module _ (e : ℕ) (cs : List Claim) (some : 0 < e) (valid : Valid cs) where
   abbrev rows : List Cells
   rows = trace e cs
 
-  abbrev rowIn : ℕ → Cells
-  rowIn i = getD rows i emptyRow
+  abbrev rowHere : ℕ → Cells
+  rowHere i = rowIn rows i
 
-  empties : (i : ℕ) → i < e → rowIn i ≡ emptyRow
+  empties : (i : ℕ) → i < e → rowHere i ≡ emptyRow
   unfolding trace
   empties i l = List·getD-append blanks after-blanks emptyRow i (rw length-replicate l) ∙ getD-replicate e i emptyRow emptyRow l
 
-  cycles-stand : Stands rowIn e after-blanks
+  cycles-stand : Stands rowHere e after-blanks
   unfolding trace
-  cycles-stand = rw (length-replicate, zero-add) at (stands-rest rowIn 0 blanks after-blanks (λ i l. ap rowIn (zero-add i)))
+  cycles-stand = rw (length-replicate, zero-add) at (stands-rest rowHere 0 blanks after-blanks (λ i l. ap rowHere (zero-add i)))
 
-  empty-before : (i : ℕ) → i < e → rowBefore rowIn i ≡ emptyRow
+  empty-before : (i : ℕ) → i < e → rowBefore rowHere i ≡ emptyRow
   empty-before zero l = refl
   empty-before (suc i) l = empties i (omega arith)
 
-  empty-holds : (i : ℕ) → i < e → AllHold rowIn (length rows) i
+  empty-holds : (i : ℕ) → i < e → AllHold rowHere (length rows) i
   empty-holds i l =
-      from-meets rowIn (length rows) i (rw (empties i l, empty-before i l)
-      (empty-meets (rowBefore (rowBefore rowIn) i) (before rowIn i (contextOf emptyRow)) (eqb i 0) (eqb (suc i) (length rows))))
+      from-meets rowHere (length rows) i (rw (empties i l, empty-before i l)
+      (empty-meets (rowBefore (rowBefore rowHere) i) (before rowHere i (contextOf emptyRow)) (eqb i 0) (eqb (suc i) (length rows))))
 
   leads-first : Leads emptyRow 1
   unfolding stampMoves ctMoves
   leads-first = record { stamps = refl; cts = refl }
 
   -- after the last empty row
-  cycles-hold : (p : ℕ) → suc p ≡ e → From rowIn (length rows) e
+  cycles-hold : (p : ℕ) → suc p ≡ e → From rowHere (length rows) e
   cycles-hold p q =
-      subst (From rowIn (length rows)) q (goes rowIn (length rows) cs p 0 fresh all-sound-fresh valid (rw q (sym (length-trace e cs)))
-      (rw (empties p (omega arith)) leads-first) (rw q cycles-stand) (rw q (before-empties rowIn e empties)))
+      subst (From rowHere (length rows)) q (goes rowHere (length rows) cs p 0 fresh all-sound-fresh valid (rw q (sym (length-trace e cs)))
+      (rw (empties p (omega arith)) leads-first) (rw q cycles-stand) (rw q (before-empties rowHere e empties)))
 
   -- all constraints hold at each row of the trace
-  pub trace-holds : (i : ℕ) → i < length rows → AllHold rowIn (length rows) i
+  pub trace-holds : (i : ℕ) → i < length rows → AllHold rowHere (length rows) i
   trace-holds i l = go (decLt i e)
     where
-      go : Dec (i < e) → AllHold rowIn (length rows) i
+      go : Dec (i < e) → AllHold rowHere (length rows) i
       go (yes h) = empty-holds i h
       go (no h) = cycles-hold (e - 1) (omega arith) i (omega arith) l

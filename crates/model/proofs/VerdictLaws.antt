@@ -3,7 +3,7 @@ use Prim.Native.Nat.{ℕ, zero, suc, _/_, _%_, _≤_, _<_}
 use mathlib.Core.Bool.{Bool, true, false, not, _||_}
 use mathlib.Core.List.{List}
 use mathlib.Core.Logic.{_↔_, _≢_, _⊎_, inl, inr, ⊎-elim}
-use mathlib.Core.Path.{_≡_, refl, sym, _∙_, ap, ap₂, subst}
+use mathlib.Core.Path.{_≡_, refl, ap, ap₂, subst}
 use native.Mathlib.Nat.{le-of-suc-le-suc}
 use native.Mathlib.Omega.{arith}
 use borrow.Author.Tests.{ltb-true, ltb-false, eqb-true, eqb-false, not-true, not-false, lt-ltb, le-ltb, eq-eqb, ne-eqb}
@@ -115,10 +115,6 @@ module _ (r t : ℕ → Cells) (n m i : ℕ) (h : (j : ℕ) → j ≤ i → r j 
   pub first-broken-local : brokenAt r n i ≡ brokenAt t m i
   unfolding brokenAt
   first-broken-local = ap firstBroken view-local
-
-  -- and whether all hold there
-  pub all-hold-local : AllHold r n i → AllHold t m i
-  all-hold-local a k f g = ap (constraint k) (sym view-local) ∙ a k f g
 
 -- ---- bytes
 

@@ -6,11 +6,11 @@ use mathlib.Core.Logic.{_≢_}
 use mathlib.Core.Path.{_≡_}
 use lib.ListN.{length, getD, take, drop, set}
 use Rattle.number.specs.Whole.{bound}
-use Rattle.model.specs.Columns.{Cells, columns, cellsIn, ofList, emptyRow}
+use Rattle.model.specs.Columns.{Cells, columns, cellsIn, ofList, rowIn}
 use Rattle.model.specs.Cycles.{Claim, Stepped, step}
 use Rattle.model.specs.Promises.{Holds}
 use Rattle.model.specs.Trace.{trace}
-use Rattle.model.specs.Verdict.{brokenAt, Judgement, meet, break, judged}
+use Rattle.model.specs.Verdict.{Judgement, meet, break, judgedRows}
 
 -- ---- changes in rows
 
@@ -19,7 +19,7 @@ pub data Name : Type 0 where
   STAMP CN OOOB CT END1 END2 BYTE1 BYTE2 ACC1 ACC2 MEM MEMN COST COSTN GAS : Name
   COMP DBYTE DACC ENDMAX FLAG EBYTE EACC Q1 Q1BYTE Q1ACC Q2 Q2BYTE Q2ACC AUX1 AUX2 : Name
 
--- and their places in the row, from 0
+-- and their places among the columns, from 0
 abbrev place : Name → ℕ
 place STAMP = 0
 place CN = 1
@@ -52,6 +52,7 @@ place Q2ACC = 27
 place AUX1 = 28
 place AUX2 = 29
 
+-- what is changed in the rows of a trace
 pub data Change : Type 0 where
   -- in the rows from i to j the cell of a column becomes v
   rows : (i j : ℕ) → Name → (v : ℕ) → Change
@@ -62,9 +63,11 @@ pub data Change : Type 0 where
 abbrev row : ℕ → Name → ℕ → Change
 row i c v = rows i i c v
 
+-- a row with another number in one column
 abbrev write : Name → ℕ → Cells → Cells
 write c v x = ofList (set (cellsIn columns x) (place c) v)
 
+-- rows with one change
 abbrev change : List Cells → Change → List Cells
 change xs (rows i j c v) = take i xs ++ (map (write c v) (take (suc j - i) (drop i xs)) ++ drop (suc j) xs)
 change xs (part i n) = take n (drop i xs)
@@ -75,12 +78,6 @@ changed xs [] = xs
 changed xs (d ∷ ds) = changed (change xs d) ds
 
 -- ---- rows and their judgement
-
-abbrev pub rowIn : List Cells → ℕ → Cells
-rowIn xs i = getD xs i emptyRow
-
-abbrev pub judgedRows : List Cells → Judgement
-judgedRows xs = judged (brokenAt (rowIn xs) (length xs)) (length xs)
 
 -- the rows break constraint k and no other: without it they would pass
 pub record BreaksOnly (k : ℕ) (xs : List Cells) : Type 0 where
@@ -103,6 +100,7 @@ Says w = judgedRows (w .shown) ≡ w .judgement
 abbrev witness : List Claim → List Change → Judgement → Witness
 witness cs ds j = record { shown = changed (trace 1 cs) ds; judgement = j }
 
+-- a claim by its three numbers
 abbrev claim : (cn end1 end2 : ℕ) → Claim
 claim cn end1 end2 = record { context = record { cn = cn }; end1 = end1; end2 = end2 }
 

@@ -114,6 +114,10 @@ ofList l = record {
 abbrev pub emptyRow : Cells
 emptyRow = ofList []
 
+-- row i of a list of rows; outside of it, the row of zeros
+abbrev pub rowIn : List Cells → ℕ → Cells
+rowIn rows i = getD rows i emptyRow
+
 -- row i of a byte string
 unfoldable pub rowAt : List ℕ → ℕ → Cells
 rowAt l i = ofList (decode widths l (i * rowBytes))

@@ -142,6 +142,7 @@ outRow stamp s c i =
 
 -- ---- cycles and traces
 
+-- row i of the cycle of a claim: the answers of the two comparisons, where it is in bounds
 unfoldable pub rowOf : ℕ → State → Claim → ℕ → Cells
 rowOf stamp s c i =
     pick (inBounds c) (inRow (leb (c .end2) (c .end1)) (ltb (s .mem) (top c)) stamp s c i) (outRow stamp s c i)
@@ -154,6 +155,7 @@ cycleOf stamp s c = table (suc (lastOf c)) (rowOf stamp s c)
 unfoldable pub after : State → Claim → State
 after s c = reach (inBounds c && ltb (s .mem) (top c)) (top c) s
 
+-- the states of all contexts after it
 abbrev pub afterClaim : (Context → State) → Claim → Context → State
 afterClaim states c = put states (c .context) (after (states (c .context)) c)
 

@@ -4,7 +4,7 @@ use mathlib.Core.Bool.{not, _||_}
 use mathlib.Core.List.{List}
 use lib.Dec.{eqb, ltb}
 use lib.ListN.{length}
-use Rattle.model.specs.Columns.{Cells, emptyRow, rowBytes, rowAt, rowsOf}
+use Rattle.model.specs.Columns.{Cells, emptyRow, rowIn, rowBytes, rowAt, rowsOf}
 use Rattle.model.specs.Constraints.{inUse, View, firstBroken}
 use Rattle.model.specs.Cycles.{Counts, counts}
 use Rattle.model.specs.State.{Context, State, contextOf, stateOf, fresh, put}
@@ -55,6 +55,10 @@ andRow (break j m) i k = break j m
 unfoldable pub judged : (ℕ → ℕ) → ℕ → Judgement
 judged first zero = meet
 judged first (suc i) = andRow (judged first i) i (first i)
+
+-- the judgement on a list of rows
+abbrev pub judgedRows : List Cells → Judgement
+judgedRows rows = judged (brokenAt (rowIn rows) (length rows)) (length rows)
 
 pub data Verdict : Type 0 where
   -- counts
