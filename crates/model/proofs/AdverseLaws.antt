@@ -196,6 +196,11 @@ pub sample-rows : length (trace 1 sample) ≡ 33
 unfolding trace cyclesOf cycleOf table lastOf inBounds
 sample-rows = refl
 
+-- of 114 bytes each
+pub sample-bytes : length (traceBytes 1 sample) ≡ 3762
+unfolding traceBytes bytesOf encode be trace cyclesOf cycleOf table lastOf inBounds
+sample-bytes = refl
+
 -- instructions=6 oob=1, after one empty row
 pub sample-counts : counts (trace 1 sample) ≡ record { instructions = 6; oob = 1; empty = 1 }
 unfolding counts emptyRows count cyclesFrom starts inUse trace cyclesOf cycleOf table lastOf inBounds rowOf inRow outRow
