@@ -7,7 +7,7 @@ use native.Mathlib.Omega.{arith}
 use lib.ListN.{length, take, drop, drop-of-length-le}
 use lib.Seq.{sets, sets-eq}
 use Rattle.ground.specs.Agree.{widths}
-use Rattle.number.specs.Cells.{encode, decode, total}
+use Rattle.number.specs.Cells.{encode, decode}
 use Rattle.number.specs.Num.{num, be, AllBytes}
 use Rattle.number.proofs.CellLaws.{encode-decode, length-encode}
 
@@ -19,7 +19,6 @@ four-cells t p = simp (add-assoc, append-nil)
 -- cells written over as many bytes leave nothing of those
 pub cells-over : (z t : List ℕ) (p : ℕ) → AllBytes t → p + 25 ≤ length t → length z ≡ 25
     → sets z 0 (encode widths (decode widths t p)) ≡ take 25 (drop p t)
-unfolding total
 cells-over z t p bs h l =
     let vs = encode widths (decode widths t p) in
     let n : length vs ≡ 25 = length-encode widths (decode widths t p) in

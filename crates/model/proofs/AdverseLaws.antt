@@ -9,7 +9,7 @@ use native.Mathlib.Nat.{not-suc-le-zero}
 use lib.Dec.{T, eqb, eqb→eq, ltb, ltb→lt, leb, leb→le}
 use lib.ListN.{length, set}
 use lib.Seq.{getD-set-other}
-use Rattle.number.specs.Cells.{total, encode, decode, Fit}
+use Rattle.number.specs.Cells.{encode, decode, Fit}
 use Rattle.number.specs.Num.{num, be}
 use Rattle.number.specs.Sums.{prefixAt, digitAt}
 use Rattle.number.specs.Tables.{every}
@@ -221,5 +221,5 @@ sample-last = (refl, refl, refl)
 
 -- a walker over its bytes goes from the row after the empty one by 3 rows, and by 17 at the last instruction; then it stays
 pub sample-steps : nextRows 7 (traceBytes 1 sample) 1 ≡ 4 ∷ 7 ∷ 10 ∷ 13 ∷ 16 ∷ 33 ∷ 33 ∷ []
-unfolding step rowAt decode num total lastCt traceBytes bytesOf encode be trace cyclesOf cycleOf table lastOf inBounds rowOf inRow outRow
+unfolding step rowAt decode num lastCt traceBytes bytesOf encode be trace cyclesOf cycleOf table lastOf inBounds rowOf inRow outRow
 sample-steps = refl

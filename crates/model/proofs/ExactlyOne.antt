@@ -5,7 +5,6 @@ use mathlib.Core.List.{List, [], _∷_}
 use mathlib.Core.Path.{_≡_, sym, _∙_, ap, ap₂}
 use native.Mathlib.Omega.{arith}
 use lib.ListN.{length}
-use Rattle.number.specs.Cells.{total}
 use Rattle.number.specs.Num.{AllBytes}
 use Rattle.model.specs.Columns.{Cells, rowBytes, rowAt, table, rowsOf, bytesOf}
 use Rattle.model.specs.Cycles.{Cycle, starts, cyclesFrom, Claim, Counts, claims, emptyRows, counts}
@@ -83,11 +82,9 @@ module _ (l : List ℕ) (a : Accepted l) where
   meets = verdict-accepted l (counts (rowsOf l)) .0 (a .verdict)
 
   some : 0 < count
-  unfolding total
   some = omega (arith, meets .sized .some, meets .sized .whole)
 
   inside : (i : ℕ) → i < count → suc i * rowBytes ≤ length l
-  unfolding total
   inside i h = omega arith
 
   are : (more : ℕ) × (cs : List Claim) × (Valid cs) × (table count (rowAt l) ≡ trace (suc more) cs)

@@ -2,11 +2,11 @@
 use Prim.Native.Nat.{ℕ, zero, suc, _+_, _*_, _/_, _%_, _<_, _≤_}
 use mathlib.Core.List.{List, [], _∷_, _++_, append-assoc, append-nil}
 use mathlib.Core.Path.{_≡_, refl, sym, _∙_, ap}
-use native.Mathlib.Nat.{le-of-suc-le-suc, not-suc-le-zero, zero-mul}
+use native.Mathlib.Nat.{le-of-suc-le-suc, not-suc-le-zero}
 use native.Mathlib.Omega.{arith}
 use lib.ListN.{length, take, drop, length-append, length-drop, take-append-drop}
 use lib.Seq.{take-add, take-all, split-at, take-at, drop-at, length-take-le}
-use Rattle.number.specs.Cells.{total, encode, decode, Fit}
+use Rattle.number.specs.Cells.{encode, decode, Fit}
 use Rattle.number.specs.Num.{be, AllBytes}
 use Rattle.number.proofs.CellLaws.{length-encode, encode-decode, decode-encode, decode-fit}
 use Rattle.number.proofs.NumLaws.{be-bytes}
@@ -98,7 +98,7 @@ row-back rows i f h =
 
 -- and so are all of them
 pub rows-back : (rows : List Cells) → AllFit rows → rowsOf (bytesOf rows) ≡ rows
-unfolding rowsOf total
+unfolding rowsOf
 rows-back rows f =
     let n : length (bytesOf rows) / rowBytes ≡ length rows = omega (arith, length-bytes rows) in
     rw n (table-path (length rows) (rowAt (bytesOf rows)) (λ i. rowIn rows i) (λ i h. row-back rows i f h) ∙ table-of-list rows emptyRow)
@@ -111,15 +111,15 @@ bytes-next f n = rw (table-snoc, bytes-append, append-nil)
 
 -- the first n rows
 bytes-first : (l : List ℕ) (n : ℕ) → AllBytes l → n * rowBytes ≤ length l → bytesOf (table n (rowAt l)) ≡ take (n * rowBytes) l
-bytes-first l zero b h = unfold bytesOf table in rw zero-mul
+bytes-first l zero b h = unfold bytesOf table in refl
 bytes-first l (suc n) b h =
     let e = encode-decode widths l (n * rowBytes) b (omega arith) in
     let m : suc n * rowBytes ≡ n * rowBytes + rowBytes = omega arith in
-    rw (bytes-next (rowAt l) n, bytes-first l n b (omega arith), cells-row l n, e, m, take-add)
+    rw (bytes-next (rowAt l) n, bytes-first l n b (omega arith), cells-row l n, e) (sym (ap (λ (k : ℕ). take k l) m ∙ take-add (n * rowBytes) rowBytes l))
 
 -- the bytes of whole rows are those of the rows read from them
 pub bytes-back : (l : List ℕ) → AllBytes l → length l % rowBytes ≡ 0 → bytesOf (rowsOf l) ≡ l
-unfolding rowsOf total
+unfolding rowsOf
 bytes-back l b h = bytes-first l (length l / rowBytes) b (omega arith) ∙ take-all (length l / rowBytes * rowBytes) l (omega arith)
 
 -- ---- a part of the rows is a part of the bytes

@@ -4,7 +4,6 @@ use mathlib.Core.List.{List}
 use mathlib.Core.Path.{_≡_, refl, sym, _∙_, ap, ap₂}
 use native.Mathlib.Omega.{arith}
 use lib.ListN.{length}
-use Rattle.number.specs.Cells.{total}
 use Rattle.model.specs.Columns.{Cells, rowIn, rowBytes, rowAt, bytesOf}
 use Rattle.model.specs.Cycles.{counts}
 use Rattle.model.specs.Promises.{WellSized}
@@ -21,7 +20,6 @@ module _ (rows : List Cells) (fit : AllFit rows) (some : 0 < length rows) (room 
   rows-length = sym (length-rows l) ∙ ap length (rows-back rows fit)
 
   sized : WellSized l
-  unfolding total
   sized = record { some = omega (arith, length-bytes rows); whole = omega (arith, length-bytes rows); rows = rw rows-length room }
 
   broken-same : (i : ℕ) → i < length rows → brokenAt (rowAt l) (length rows) i ≡ brokenAt (rowIn rows) (length rows) i

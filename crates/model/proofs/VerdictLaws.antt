@@ -9,7 +9,6 @@ use native.Mathlib.Omega.{arith}
 use borrow.Author.Tests.{ltb-true, ltb-false, eqb-true, eqb-false, not-true, not-false, lt-ltb, le-ltb, eq-eqb, ne-eqb}
 use lib.Dec.{eqb, ltb}
 use lib.ListN.{length}
-use Rattle.number.specs.Cells.{total}
 use Rattle.number.proofs.TestLaws.{either, either-left, either-right}
 use Rattle.model.specs.Columns.{Cells, rowBytes, rowAt, rowsOf}
 use Rattle.model.specs.Constraints.{constraints, constraint, firstBroken}
@@ -180,7 +179,6 @@ module _ (l : List ℕ) where
   sized-verdict w = rw (unfit-false .1 (w .some, w .whole), le-ltb maxRows rows (w .rows))
 
   long-some : maxRows < rows → 0 < length l
-  unfolding total
   long-some h = omega arith
 
   says-verdict : (v : Verdict) → Means v → verdict l ≡ v

@@ -6,7 +6,7 @@ use mathlib.Core.Path.{_≡_, refl, _∙_, ap}
 use native.Mathlib.Omega.{arith}
 use lib.Dec.{T, ltb, ltb→lt, lit<, lit≤}
 use lib.ListN.{getD, replicate}
-use Rattle.number.specs.Cells.{total, encode, decode}
+use Rattle.number.specs.Cells.{encode, decode}
 use Rattle.number.specs.Num.{num, be, AllBytes}
 use Rattle.number.specs.Tables.{every}
 use Rattle.number.proofs.TableLaws.{every-at}
@@ -29,7 +29,6 @@ row-bytes : (b : ℕ) → T (every (λ (v : ℕ). ltb v 256) (row b)) → AllByt
 row-bytes b t i h = ltb→lt (getD (row b) i 0) 256 (every-at (λ (v : ℕ). ltb v 256) (row b) t i 0 h)
 
 row-sized : (b : ℕ) → WellSized (row b)
-unfolding total
 row-sized b = record { some = omega arith; whole = refl; rows = lit≤ tt }
 
 abbrev oneEmpty : Counts
@@ -37,12 +36,12 @@ oneEmpty = record { instructions = 0; oob = 0; empty = 1 }
 
 accepted-row : verdict (row 0) ≡ accepted oneEmpty
 unfolding verdict judged brokenAt firstBroken firstFailed inUse k1 k2 k3 k4 k5 k6 k26 ctMoves
-    rowAt decode num total rowsOf table counts emptyRows cyclesFrom count starts
+    rowAt decode num rowsOf table counts emptyRows cyclesFrom count starts
 accepted-row = refl
 
 -- constraint 2: row 0 has STAMP 0
 broken-row : verdict (row 1) ≡ broken 0 2
-unfolding verdict judged brokenAt firstBroken firstFailed k1 k2 rowAt decode num total
+unfolding verdict judged brokenAt firstBroken firstFailed k1 k2 rowAt decode num
 broken-row = refl
 
 module _ (f : Checker) (e : ExactChecker f) where
@@ -77,7 +76,7 @@ unfolding trace cyclesOf cycleOf table lastOf inBounds
 two-fit k h l = record { some = omega arith; valid = (nothing-valid 1 (omega arith) (omega arith), (nothing-valid k h l, tt)); rows = lit≤ tt }
 
 two-differ : traceBytes 1 (two 1) ≢ traceBytes 1 (two 2)
-unfolding traceBytes trace cyclesOf cycleOf table lastOf inBounds rowOf inRow bytesOf encode be rowAt decode num total
+unfolding traceBytes trace cyclesOf cycleOf table lastOf inBounds rowOf inRow bytesOf encode be rowAt decode num
 two-differ e =
     let z : _≡_ {A = ℕ} 1 2 = ap (λ (l : List ℕ). rowAt l 4 .cn) e in
     omega arith

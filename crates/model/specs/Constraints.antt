@@ -193,17 +193,18 @@ within x k = used x (implies (eqb (x .ooob) 0) k)
 abbrev pub beyond : Cells → Bool → Bool
 beyond x k = used x (implies (eqb (x .ooob) 1) k)
 
--- whether the row meets each of the 26, in their order
-abbrev pub constraints : View → List Bool
-constraints v =
-    let a : Cells = v .two in
-    let b : Cells = v .one in
-    let x : Cells = v .this in
-    k1 x ∷ k2 (v .first) x ∷ k3 (v .first) b x ∷ k4 b x ∷ k5 b x ∷ k6 x
-    ∷ used x (k7 x) ∷ used x (k8 b x) ∷ used x (k9 (v .state) x) ∷ used x (k10 b x)
+-- whether the row meets each of the 26, in their order, where the answers to 9 and to 25 are known
+abbrev pub constraintsBy : (a b x : Cells) → (first last nine twentyFive : Bool) → List Bool
+constraintsBy a b x first last nine twentyFive =
+    k1 x ∷ k2 first x ∷ k3 first b x ∷ k4 b x ∷ k5 b x ∷ k6 x
+    ∷ used x (k7 x) ∷ used x (k8 b x) ∷ used x nine ∷ used x (k10 b x)
     ∷ within x (k11 b x) ∷ within x (k12 b x) ∷ within x (k13 b x) ∷ within x (k14 b x) ∷ within x (k15 x) ∷ within x (k16 x)
     ∷ within x (k17 x) ∷ within x (k18 x) ∷ within x (k19 x) ∷ within x (k20 x) ∷ within x (k21 b x) ∷ within x (k22 a b x) ∷ within x (k23 x)
-    ∷ beyond x (k24 x) ∷ beyond x (k25 x) ∷ k26 (v .last) x ∷ []
+    ∷ beyond x (k24 x) ∷ beyond x twentyFive ∷ k26 last x ∷ []
+
+-- and with the answers to those two
+abbrev pub constraints : View → List Bool
+constraints v = constraintsBy (v .two) (v .one) (v .this) (v .first) (v .last) (k9 (v .state) (v .this)) (k25 (v .this))
 
 -- constraint k, from 1; there are no others
 unfoldable pub constraint : ℕ → View → Bool

@@ -10,14 +10,14 @@ use Rattle.number.specs.Num.{num, be, AllBytes}
 use Rattle.number.proofs.NumLaws.{length-be, num-at, be-num, num-lt}
 
 pub length-encode : (ws vs : List ℕ) → length (encode ws vs) ≡ total ws
-unfolding encode total
+unfolding encode
 length-encode [] vs = refl
 length-encode (w ∷ ws) [] = rw (length-append, length-be, length-encode ws [])
 length-encode (w ∷ ws) (v ∷ vs) = rw (length-append, length-be, length-encode ws vs)
 
 -- the bytes that were read as cells are written back
 pub encode-decode : (ws l : List ℕ) (p : ℕ) → AllBytes l → p + total ws ≤ length l → encode ws (decode ws l p) ≡ take (total ws) (drop p l)
-unfolding encode decode total
+unfolding encode decode
 encode-decode [] l p bs h = refl
 encode-decode (w ∷ ws) l p bs h =
     let ih : encode ws (decode ws l (p + w)) ≡ take (total ws) (drop (p + w) l) = encode-decode ws l (p + w) bs (omega arith) in
@@ -40,6 +40,6 @@ decode-encode (w ∷ ws) (v ∷ vs) xs ys f =
 
 -- what was read fits
 pub decode-fit : (ws l : List ℕ) (p : ℕ) → AllBytes l → p + total ws ≤ length l → Fit ws (decode ws l p)
-unfolding decode total Fit
+unfolding decode Fit
 decode-fit [] l p bs h = tt
 decode-fit (w ∷ ws) l p bs h = (num-lt l p w bs (omega arith), decode-fit ws l (p + w) bs (omega arith))

@@ -4,7 +4,7 @@ use mathlib.Core.List.{List, [], _∷_, _++_}
 use Rattle.number.specs.Num.{num, be}
 
 -- how many bytes cells of these widths take
-unfoldable pub total : List ℕ → ℕ
+abbrev pub total : List ℕ → ℕ
 total [] = 0
 total (w ∷ ws) = w + total ws
 

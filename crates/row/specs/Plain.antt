@@ -1,0 +1,94 @@
+-- The code's row as the thirty whole numbers that the model speaks of.
+use Prim.Native.Nat.{ℕ, _+_}
+use mathlib.Core.List.{List, [], _∷_}
+use mathlib.Core.Path.{_≡_}
+use Rattle.number.specs.Num.{num}
+use Rattle.number.specs.Whole.{val}
+use Rattle.model.specs.Columns.{Cells, widths, ofList}
+use Rattle.row.specs.declared.cells.Body.{Body}
+use Rattle.row.specs.declared.cells.Head.{Head}
+use Rattle.row.specs.declared.cells.Row.{Row}
+use Rattle.row.specs.declared.cells.Tail.{Tail}
+
+-- the cells of a row, as whole numbers
+abbrev pub plain : Row → Cells
+plain x = record {
+  stamp = x .head .stamp;
+  cn = x .head .cn;
+  ooob = x .head .ooob;
+  ct = x .head .ct;
+  end1 = val (x .head .end1);
+  end2 = val (x .head .end2);
+  byte1 = x .head .byte1;
+  byte2 = x .head .byte2;
+  acc1 = val (x .head .acc1);
+  acc2 = x .head .acc2;
+  mem = x .body .mem;
+  memn = x .body .memn;
+  cost = x .body .cost;
+  costn = x .body .costn;
+  gas = x .body .gas;
+  comp = x .body .comp;
+  dbyte = x .body .dbyte;
+  dacc = x .body .dacc;
+  endmax = x .body .endmax;
+  flag = x .body .flag;
+  ebyte = x .tail .ebyte;
+  eacc = x .tail .eacc;
+  q1 = x .tail .q1;
+  q1byte = x .tail .q1byte;
+  q1acc = x .tail .q1acc;
+  q2 = x .tail .q2;
+  q2byte = x .tail .q2byte;
+  q2acc = x .tail .q2acc;
+  aux1 = x .tail .aux1;
+  aux2 = x .tail .aux2;
+}
+
+-- the values of cells with these widths, the first of which stands o bytes after p
+abbrev pub cellsFrom : List ℕ → List ℕ → (p o : ℕ) → List ℕ
+cellsFrom [] l p o = []
+cellsFrom (w ∷ ws) l p o = num l (p + o) w ∷ cellsFrom ws l p (o + w)
+
+-- the row whose first byte is at p
+abbrev pub from : List ℕ → ℕ → Cells
+from l p = ofList (cellsFrom widths l p 0)
+
+-- x is that part of the row whose first byte is at p
+pub record HeadAt (l : List ℕ) (p : ℕ) (x : Head) : Type 0 where
+  pub stamp : x .stamp ≡ from l p .stamp
+  pub cn : x .cn ≡ from l p .cn
+  pub ooob : x .ooob ≡ from l p .ooob
+  pub ct : x .ct ≡ from l p .ct
+  pub end1 : val (x .end1) ≡ from l p .end1
+  pub end2 : val (x .end2) ≡ from l p .end2
+  pub byte1 : x .byte1 ≡ from l p .byte1
+  pub byte2 : x .byte2 ≡ from l p .byte2
+  pub acc1 : val (x .acc1) ≡ from l p .acc1
+  pub acc2 : x .acc2 ≡ from l p .acc2
+
+-- x is that part of the row whose first byte is at p
+pub record BodyAt (l : List ℕ) (p : ℕ) (x : Body) : Type 0 where
+  pub mem : x .mem ≡ from l p .mem
+  pub memn : x .memn ≡ from l p .memn
+  pub cost : x .cost ≡ from l p .cost
+  pub costn : x .costn ≡ from l p .costn
+  pub gas : x .gas ≡ from l p .gas
+  pub comp : x .comp ≡ from l p .comp
+  pub dbyte : x .dbyte ≡ from l p .dbyte
+  pub dacc : x .dacc ≡ from l p .dacc
+  pub endmax : x .endmax ≡ from l p .endmax
+  pub flag : x .flag ≡ from l p .flag
+
+-- x is that part of the row whose first byte is at p
+pub record TailAt (l : List ℕ) (p : ℕ) (x : Tail) : Type 0 where
+  pub ebyte : x .ebyte ≡ from l p .ebyte
+  pub eacc : x .eacc ≡ from l p .eacc
+  pub q1 : x .q1 ≡ from l p .q1
+  pub q1byte : x .q1byte ≡ from l p .q1byte
+  pub q1acc : x .q1acc ≡ from l p .q1acc
+  pub q2 : x .q2 ≡ from l p .q2
+  pub q2byte : x .q2byte ≡ from l p .q2byte
+  pub q2acc : x .q2acc ≡ from l p .q2acc
+  pub aux1 : x .aux1 ≡ from l p .aux1
+  pub aux2 : x .aux2 ≡ from l p .aux2
