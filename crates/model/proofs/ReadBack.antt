@@ -151,7 +151,8 @@ oob-placed i k states [] = refl
 oob-placed i k states (c ∷ cs) =
     rw (oob-of-row k (states (c .context)) c 0, oob-placed (i + suc (lastOf c)) (suc k) (afterClaim states c) cs)
 
-count-join : {A : Type 0} (f : A → Bool) (xs ys : List A) → count f (xs ++ ys) ≡ count f xs + count f ys
+-- the entries that pass a test, in joined lists
+pub count-join : {A : Type 0} (f : A → Bool) (xs ys : List A) → count f (xs ++ ys) ≡ count f xs + count f ys
 unfolding count
 count-join f [] ys = sym (zero-add (count f ys))
 count-join f (x ∷ xs) ys =

@@ -3,3 +3,4 @@
 pub mod cells;
 pub mod place;
 pub mod read;
+pub mod write;

@@ -7,6 +7,8 @@ use gas::Bytes;
 use gas::Gas;
 use row::cells::Row;
 
+pub mod look;
+
 // A context, by its number.
 pub struct Context {
     pub cn: u32,

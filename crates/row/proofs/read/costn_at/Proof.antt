@@ -1,26 +1,20 @@
-use Rattle.row.proofs.PlaceLaws.{from-row}
-use Rattle.model.specs.Columns.{Cells}
+-- `row::read::costn_at` meets its contract: by `from-row` the cell at its place in row i is the model's.
 use mathlib.Core.Path.{_∙_, ap}
 use borrow.Author.Needs.{needs}
+use Rattle.model.specs.Columns.{Cells}
+use Rattle.row.proofs.PlaceLaws.{from-row}
 use Rattle.row.proofs.read.costn_at.Statement.{statement}
 use Rattle.row.proofs.read.costn_at.Tie as tie
-use Rattle.row.proofs.read.costn_at.Reads as reads
-use Rattle.row.proofs.read.costn_at.Lts as lts
-use Rattle.number.proofs.read.u32_at.Reads as u32-at-reads
 
--- src/read.rt:114:15
 mul-u32-at : tie.Need-mul-u32-at
 mul-u32-at c = search needs
 
--- src/read.rt:114:15
 add-u32-at : tie.Need-add-u32-at
 add-u32-at c = search needs
 
--- src/read.rt:114:5
 u32-at-requires : tie.Need-u32-at-requires
 u32-at-requires c κs = search needs
 
--- src/read.rt:110:1
 returns : tie.Need-returns
 returns c = c .u32-at .ensures ∙ ap (λ (x : Cells). x .costn) (from-row _ _)
 

@@ -1,0 +1,4 @@
+pub mod CountLaws
+pub mod RowLaws
+pub mod StartLaws
+pub mod OneAnswer

@@ -1,0 +1,30 @@
+// Why a call refuses its input: document 01's number, and the line of the list where it has one. One function for each refusal.
+ghost use mathlib.Core.Path.{_≡_};
+ghost use Rattle.model.specs.Verdict.{badLength, tooManyRows};
+ghost use Rattle.refusal.specs.Refusals.{lineless};
+
+// Its number, and the line from 1; line 0 where it is of no line.
+pub struct Refusal {
+    pub number: u64,
+    pub line: u64,
+}
+
+// The trace has length 0 or is not a multiple of a row.
+pub fn bad_length() -> Refusal
+    ensures { λ r. ⌜ r ≡ lineless badLength ⌝ }
+{
+    Refusal {
+        number: 9,
+        line: 0,
+    }
+}
+
+// The trace has more rows than a trace may have.
+pub fn too_many_rows() -> Refusal
+    ensures { λ r. ⌜ r ≡ lineless tooManyRows ⌝ }
+{
+    Refusal {
+        number: 10,
+        line: 0,
+    }
+}

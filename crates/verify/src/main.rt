@@ -1,0 +1,98 @@
+// The program `verify`: reads a trace from standard input and prints its verdict in one line. What is printed for the bytes read is promised by
+// `put_report`; that it reads and writes them is tested.
+ghost use lib.ListN.{length};
+ghost use Rattle.text.specs.Line.{Front};
+ghost use Rattle.checker.specs.declared.Verdict.the-variants.{Accepted, Broken};
+ghost use Rattle.verify.specs.Report.{line, report};
+ghost use Rattle.verify.specs.Input.{within};
+use checker::Counts;
+use checker::Verdict;
+use libc::STDIN_FILENO;
+use libc::STDOUT_FILENO;
+use text::put_bytes;
+use text::put_field;
+
+// The most bytes of a trace that `verify` takes, and the bytes that it reads: more, so that a longer input is seen to be longer.
+const VERIFY_BYTES: usize = 65436;
+
+const INPUT_BYTES: usize = 65536;
+
+// Room for a line.
+const LINE_BYTES: usize = 128;
+
+// What reading comes to: how many bytes of the input stand at the start of the buffer, or that a read failed.
+pub enum Input {
+    Bytes(usize),
+    Failed,
+}
+
+// Reads standard input into buf until buf is full, the input ends or a read fails.
+fn read_input(buf: &mut [u8]) -> Input
+    ensures { λ r. ⌜ within r (length (now (buf .exit))) ⌝ }
+{
+    let mut done: usize = 0;
+    while done < buf.len() {
+        let rest = &mut buf[done..];
+        let got = libc::read(STDIN_FILENO, rest);
+        if got < 0 {
+            return Input::Failed;
+        }
+        let n = io::count(got, rest);
+        if n == 0 {
+            return Input::Bytes(done);
+        }
+        done += n;
+    }
+    Input::Bytes(done)
+}
+
+// The line of an accepted trace, at the start of out.
+fn put_accepted(out: &mut [u8; LINE_BYTES], c: Counts) -> usize
+    ensures { λ r. ⌜ Front (now (out .entry)) (line (Accepted c)) (now (out .exit)) r ⌝ }
+{
+    let a = put_field(out, 0, b"accepted=", 1);
+    let b = put_field(out, a, b" instructions=", c.instructions);
+    let d = put_field(out, b, b" oob=", c.oob);
+    let e = put_field(out, d, b" empty=", c.empty);
+    put_bytes(out, e, b"\n")
+}
+
+// The line of a trace that breaks a constraint, at the start of out.
+fn put_broken(out: &mut [u8; LINE_BYTES], row: u64, constraint: u64) -> usize
+    ensures { λ r. ⌜ Front (now (out .entry)) (line (Broken row constraint)) (now (out .exit)) r ⌝ }
+{
+    let a = put_field(out, 0, b"accepted=", 0);
+    let b = put_field(out, a, b" row=", row);
+    let d = put_field(out, b, b" constraint=", constraint);
+    put_bytes(out, d, b"\n")
+}
+
+// The line printed for the bytes read, at the start of out.
+fn put_report(input: &[u8], out: &mut [u8; LINE_BYTES]) -> usize
+    ensures { λ r. ⌜ Front (now (out .entry)) (report (now (input .entry))) (now (out .exit)) r ⌝ }
+{
+    if VERIFY_BYTES < input.len() {
+        let long = refusal::too_many_rows();
+        return text::put_refusal(out, long.number, long.line);
+    }
+    let verdict = checker::check(input);
+    match verdict {
+        Verdict::Accepted(c) => put_accepted(out, c),
+        Verdict::Broken { row, constraint } => put_broken(out, row, constraint),
+        Verdict::Refused(r) => text::put_refusal(out, r.number, r.line),
+    }
+}
+
+// A read that fails, or a line that cannot be written, is told on standard error; after a read that failed nothing is printed.
+fn main() {
+    let mut input = [0u8; INPUT_BYTES];
+    let Input::Bytes(n) = read_input(&mut input) else {
+        os::fail(b"verify");
+        return;
+    };
+    let mut line = [0u8; LINE_BYTES];
+    let m = put_report(&input[..n], &mut line);
+    if !io::write_all(STDOUT_FILENO, &line[..m]) {
+        os::fail(b"verify");
+    }
+}
