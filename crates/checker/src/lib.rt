@@ -29,10 +29,7 @@ pub enum Verdict {
 pub fn check(t: &[u8]) -> Verdict
     ensures { λ r. ⌜ r ≡ told (verdict (now (t .entry))) ⌝ }
 {
-    if t.len() == 0 {
-        return Verdict::Refused(refusal::bad_length());
-    }
-    if t.len() % ROW_BYTES != 0 {
+    if (t.len() == 0) | (t.len() % ROW_BYTES != 0) {
         return Verdict::Refused(refusal::bad_length());
     }
     let rows = t.len() / ROW_BYTES;

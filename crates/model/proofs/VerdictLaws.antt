@@ -128,10 +128,12 @@ module _ (l : List ℕ) where
   abbrev rest : ℕ
   rest = length l % rowBytes
 
-  abbrev unfit : Bool
+  -- the test for refusal 9
+  abbrev pub unfit : Bool
   unfit = eqb (length l) 0 || not (eqb rest 0)
 
-  unfit-true : (unfit ≡ true) ↔ ((length l ≡ 0) ⊎ (rest ≢ 0))
+  -- it passes where there is no byte or a part of a row
+  pub unfit-true : (unfit ≡ true) ↔ ((length l ≡ 0) ⊎ (rest ≢ 0))
   unfit-true = (there, back)
     where
       there : unfit ≡ true → (length l ≡ 0) ⊎ (rest ≢ 0)
@@ -143,7 +145,8 @@ module _ (l : List ℕ) where
       back (inl z) = either-left _ _ (eq-eqb (length l) 0 z)
       back (inr p) = either-right (eqb (length l) 0) _ (ap not (ne-eqb rest 0 p))
 
-  unfit-false : (unfit ≡ false) ↔ ((0 < length l) × (rest ≡ 0))
+  -- and fails where there are bytes of whole rows
+  pub unfit-false : (unfit ≡ false) ↔ ((0 < length l) × (rest ≡ 0))
   unfit-false = (there, λ (h, q). rw (ne-eqb (length l) 0 (omega arith), eq-eqb rest 0 q))
     where
       there : unfit ≡ false → (0 < length l) × (rest ≡ 0)

@@ -1,0 +1,38 @@
+//! `full`: compares the library with the reference on full-size traces, on the vectors and on random traces, then
+//! measures both. It ends with a message and another status than 0 at the first difference.
+
+mod compare;
+mod damage;
+mod forgery;
+mod full_size;
+mod library;
+mod options;
+mod random;
+mod speed;
+mod story;
+mod trials;
+mod vector_files;
+
+use std::process::ExitCode;
+
+use options::Options;
+
+/// What goes wrong is told in words and ends the run.
+type Outcome<T> = Result<T, String>;
+
+fn main() -> ExitCode {
+    match Options::read(std::env::args().skip(1)).and_then(|options| run(&options)) {
+        Ok(()) => ExitCode::SUCCESS,
+        Err(message) => {
+            eprintln!("full: FAILED: {message}");
+            ExitCode::FAILURE
+        }
+    }
+}
+
+fn run(options: &Options) -> Outcome<()> {
+    println!("full size: {} traces as meant", full_size::compare_all()?);
+    println!("vectors: {} answers agree", vector_files::compare_all(&options.vectors)?);
+    println!("random: {}", trials::compare_all(options.traces, options.seed)?);
+    speed::measure_all()
+}
