@@ -4,7 +4,6 @@ ghost use Prim.Native.Nat.{_+_, _*_, _≤_, _<_};
 ghost use lib.ListN.{length};
 ghost use Rattle.model.specs.Columns.{rowBytes, rowAt, table};
 ghost use Rattle.model.specs.Cycles.{starts};
-ghost use Rattle.model.specs.Tests.{bit as Tests·bit};
 ghost use Rattle.model.specs.Verdict.{brokenAt, judged, verdictBy, maxRows};
 ghost use Rattle.model.specs.Cycles.{counts as Cycles·counts};
 ghost use Rattle.row.specs.Plain.{plain};
@@ -15,6 +14,7 @@ use crate::Verdict;
 use row::cells::Row;
 use row::cells::empty_row;
 use row::read::read_row;
+use rules::words::bit;
 
 // Whether a cycle starts with the row.
 fn starts_cycle(x: Row) -> bool
@@ -64,13 +64,6 @@ fn count_row(c: Counts, x: Row) -> Counts
         oob: c.oob + bit(starts & (x.head.ooob == 1)),
         empty: c.empty + bit(!used),
     }
-}
-
-// 1 for true.
-fn bit(x: bool) -> u64
-    ensures { λ r. ⌜ (r ≡ Tests·bit x) × (r ≤ 1) ⌝ }
-{
-    if x { 1 } else { 0 }
 }
 
 // The verdict on n whole rows.

@@ -10,8 +10,11 @@ pub const MAX_ROWS: usize = 65536;
 
 // The last CT of a cycle, in bounds and out of bounds, and the rows of a cycle.
 pub const IN_LAST: u8 = 2;
+
 pub const OUT_LAST: u8 = 16;
+
 pub const IN_ROWS: usize = IN_LAST as usize + 1;
+
 pub const OUT_ROWS: usize = OUT_LAST as usize + 1;
 
 // How many bytes a row has. A crate is checked by its functions and this one has no other work: it is here for the definitions and the laws.

@@ -13,10 +13,7 @@ pub struct Refusal {
 pub fn bad_length() -> Refusal
     ensures { λ r. ⌜ r ≡ lineless badLength ⌝ }
 {
-    Refusal {
-        number: 9,
-        line: 0,
-    }
+    Refusal { number: 9, line: 0 }
 }
 
 // The trace has more rows than a trace may have.

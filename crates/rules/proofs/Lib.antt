@@ -1,2 +1,3 @@
+pub mod SumLaws
 pub mod WordLaws
 pub mod FirstLaws

@@ -1,4 +1,4 @@
-// What more than one rule asks of the cells of a row.
+// What rules ask of many cells of a row.
 ghost use mathlib.Core.Path.{_≡_};
 ghost use lib.ListN.{drop};
 ghost use Rattle.model.specs.Columns as columns;
@@ -44,7 +44,7 @@ pub(crate) fn from_comp_zero(x: Row) -> bool
         & quotients_zero(x)
 }
 
-// Every cell from MEM on is 0.
+// Every cell from MEM, the eleventh, on is 0.
 fn from_mem_zero(x: Row) -> bool
     ensures { λ v. ⌜ v ≡ zeros (drop 10 (columns.cellsIn columns.columns (plain x))) ⌝ }
 {
@@ -73,7 +73,7 @@ pub(crate) fn all_zero(x: Row) -> bool
         & from_mem_zero(x)
 }
 
-// From COMP on what stays in a cycle is as before: COMP, ENDMAX, FLAG, Q1, Q2.
+// Of what stays as it is in a cycle, the last five: COMP, ENDMAX, FLAG, Q1, Q2.
 fn comp_kept(b: Row, x: Row) -> bool
     ensures { λ v. ⌜ v ≡ constraints.equal (drop 8 (constraints.kept (plain x))) (drop 8 (constraints.kept (plain b))) ⌝ }
 {
@@ -84,7 +84,7 @@ fn comp_kept(b: Row, x: Row) -> bool
         & (x.tail.q2 == b.tail.q2)
 }
 
-// From MEM on: MEM, MEMN, COST, COSTN, GAS and those from COMP on.
+// All but the first three: MEM, MEMN, COST, COSTN, GAS and the last five.
 fn mem_kept(b: Row, x: Row) -> bool
     ensures { λ v. ⌜ v ≡ constraints.equal (drop 3 (constraints.kept (plain x))) (drop 3 (constraints.kept (plain b))) ⌝ }
 {
@@ -96,7 +96,7 @@ fn mem_kept(b: Row, x: Row) -> bool
         & comp_kept(b, x)
 }
 
-// All that stays in a cycle is as before.
+// All of it: CN, END1, END2 and the others.
 pub(crate) fn all_kept(b: Row, x: Row) -> bool
     ensures { λ v. ⌜ v ≡ constraints.equal (constraints.kept (plain x)) (constraints.kept (plain b)) ⌝ }
 {

@@ -28,7 +28,10 @@ pub fn rule8(b: Row, x: Row) -> bool
 pub fn rule9(s: State, x: Row) -> bool
     ensures { λ v. ⌜ v ≡ k9 (state s) (plain x) ⌝ }
 {
-    implies(x.head.ct == 0, (x.body.mem == s.mem.0) & (wide(x.body.cost) == s.cost.0))
+    implies(
+        x.head.ct == 0,
+        (x.body.mem == s.mem.0) & (wide(x.body.cost) == s.cost.0),
+    )
 }
 
 // 10. BYTE1 sums up into ACC1.

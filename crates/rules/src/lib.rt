@@ -6,4 +6,4 @@ pub mod cycle;
 pub mod first;
 pub mod steps;
 pub mod within;
-mod words;
+pub mod words;

@@ -32,7 +32,10 @@ pub fn rule3(first: bool, b: Row, x: Row) -> bool
     let before = wide(b.head.stamp);
     let ended = b.head.ct == last_ct(b.head.ooob);
     let follows = wide(x.head.stamp) == pick(ended, before + 1, before);
-    implies(!first, pick_test(b.head.stamp == 0, x.head.stamp <= 1, follows))
+    implies(
+        !first,
+        pick_test(b.head.stamp == 0, x.head.stamp <= 1, follows),
+    )
 }
 
 // 4. CT is 0 where STAMP is 0 or new; else one more than before.
@@ -55,12 +58,18 @@ pub fn rule5(b: Row, x: Row) -> bool
 pub fn rule6(x: Row) -> bool
     ensures { λ v. ⌜ v ≡ k6 (plain x) ⌝ }
 {
-    implies(x.head.stamp == 0, all_zero(x))
+    if x.head.stamp != 0 {
+        return true;
+    }
+    all_zero(x)
 }
 
 // 26. The last row, STAMP not 0: CT is E.
 pub fn rule26(last: bool, x: Row) -> bool
     ensures { λ v. ⌜ v ≡ k26 last (plain x) ⌝ }
 {
-    implies(last & (x.head.stamp != 0), x.head.ct == last_ct(x.head.ooob))
+    implies(
+        last & (x.head.stamp != 0),
+        x.head.ct == last_ct(x.head.ooob),
+    )
 }

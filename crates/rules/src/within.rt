@@ -8,7 +8,6 @@ ghost use Rattle.row.specs.Plain.{plain};
 use crate::cells::quotients_zero;
 use crate::cells::stays;
 use crate::words::BASE;
-use crate::words::IN_LAST;
 use crate::words::byte;
 use crate::words::implies;
 use crate::words::is_difference;
@@ -21,6 +20,7 @@ use crate::words::wide;
 use gas::SQUARE_DIVISOR;
 use gas::WORD_BYTES;
 use gas::WORD_GAS;
+use model::IN_LAST;
 use number::wide::same;
 use row::cells::Row;
 
@@ -71,7 +71,10 @@ pub fn rule15(x: Row) -> bool
 pub fn rule16(x: Row) -> bool
     ensures { λ v. ⌜ v ≡ k16 (plain x) ⌝ }
 {
-    is_number(wide(x.body.endmax), pick_wide(x.body.comp == 1, x.head.end1, x.head.end2))
+    is_number(
+        wide(x.body.endmax),
+        pick_wide(x.body.comp == 1, x.head.end1, x.head.end2),
+    )
 }
 
 // MEMN=ENDMAX, COSTN=3(1+Q1)+Q2, COSTN=COST+GAS.
@@ -105,7 +108,10 @@ pub fn rule19(x: Row) -> bool
     let dacc = wide(x.body.dacc);
     let first = is_sum(x.head.end1, dacc, x.head.end2);
     let second = is_sum(x.head.end2, dacc + 1, x.head.end1);
-    implies(x.head.ct == IN_LAST, pick_test(x.body.comp == 1, first, second))
+    implies(
+        x.head.ct == IN_LAST,
+        pick_test(x.body.comp == 1, first, second),
+    )
 }
 
 // 20. CT=2: EACC = ENDMAX-MEM-1 if FLAG=1, else MEM-ENDMAX.
@@ -117,7 +123,10 @@ pub fn rule20(x: Row) -> bool
     let mem = wide(x.body.mem);
     let above = is_difference(eacc, endmax, mem + 1);
     let below = is_difference(eacc, mem, endmax);
-    implies(x.head.ct == IN_LAST, pick_test(x.body.flag == 1, above, below))
+    implies(
+        x.head.ct == IN_LAST,
+        pick_test(x.body.flag == 1, above, below),
+    )
 }
 
 // 21. CT=2, FLAG=1: Q1ACC=Q1; AUX1 one row before = AUX1+224; ENDMAX-1 = 32*Q1+AUX1.

@@ -1,21 +1,18 @@
-// The words that the rules are written in: tests and choices without a branch, on numbers that are wide enough for every sum.
+// The words that the rules are written in: tests and choices, on numbers that are wide enough for every sum.
 ghost use mathlib.Core.Path.{_≡_};
 ghost use Prim.Native.Nat.{_+_, _^_, _<_, _≤_};
 ghost use lib.Dec.{eqb};
 ghost use Rattle.number.specs.Whole.{val};
 ghost use Rattle.model.specs.Constraints.{lastCt};
 ghost use Rattle.model.specs.Tests as tests;
+use model::IN_LAST;
+use model::OUT_LAST;
 use number::wide::Wide;
 use number::wide::is_next;
 use number::wide::same;
 use number::wide::small;
 
-// A cycle's last CT: 2 if OOOB=0, 16 if OOOB=1.
-pub(crate) const IN_LAST: u8 = 2;
-
-pub(crate) const OUT_LAST: u8 = 16;
-
-// What a byte can be, in number.
+// How many values a byte has.
 pub(crate) const BASE: u64 = 256;
 
 // A number of 32 bits, with room for sums.
@@ -33,7 +30,7 @@ pub(crate) fn byte(x: u8) -> u64
 }
 
 // 1 for a test that passes, else 0.
-pub(crate) fn bit(t: bool) -> u64
+pub fn bit(t: bool) -> u64
     ensures { λ r. ⌜ (r ≡ tests.bit t) × (r ≤ 1) ⌝ }
 {
     if t { 1 } else { 0 }
@@ -81,7 +78,7 @@ pub(crate) fn is_difference(v: u64, a: u64, b: u64) -> bool
     v + b == a
 }
 
-// Whether a is n + b.
+// Whether a is n + b. A part of the sum carries 1 just where it is below what was added to it.
 pub(crate) fn is_sum(a: Wide, n: u64, b: Wide) -> bool
     ensures { λ r. ⌜ r ≡ eqb (n + val b) (val a) ⌝ }
 {

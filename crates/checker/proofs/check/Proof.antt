@@ -14,7 +14,7 @@ bad-length-requires : tie.Need-bad-length-requires
 bad-length-requires c κs = search needs
 
 returns : tie.Need-returns
-returns c = 
+returns c =
     let l = c .before .before .before .args .t .now in
     ap Refused (c .bad-length .ensures) ∙ ap told (sym (refused-length l .1 (unfit-true l .0 (c .before .if1 .taken))))
 
@@ -22,7 +22,7 @@ too-many-rows-requires : tie.Need-too-many-rows-requires
 too-many-rows-requires c κs = search needs
 
 returns-2 : tie.Need-returns-2
-returns-2 c = 
+returns-2 c =
     let whole = c .before .before in
     let l = whole .before .before .args .t .now in
     let fit = unfit-false l .0 (whole .if1 .left) in
@@ -33,7 +33,7 @@ verdict-on-requires c κs = search needs
 
 returns-3 : tie.Need-returns-3
 unfolding rowsOf
-returns-3 c = 
+returns-3 c =
     let whole = c .before .before in
     let l = whole .before .before .args .t .now in
     let fit = unfit-false l .0 (whole .if1 .left) in

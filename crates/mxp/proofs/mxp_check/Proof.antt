@@ -27,17 +27,17 @@ enum-known-verdict-3 : tie.Need-enum-known-verdict-3
 enum-known-verdict-3 c = search needs
 
 returns : tie.Need-returns
-returns c = 
+returns c =
     let told = c .before .before in
     answer-out _ (told .before .before .check .ensures) (told .verdict .given .1)
 
 returns-2 : tie.Need-returns-2
-returns-2 c = 
+returns-2 c =
     let told = c .before .before in
     answer-out _ (told .before .before .check .ensures) (told .verdict2 .given .1)
 
 returns-3 : tie.Need-returns-3
-returns-3 c = 
+returns-3 c =
     let told = c .before .before in
     answer-out _ (told .before .before .check .ensures) (told .verdict3 .given .1)
 

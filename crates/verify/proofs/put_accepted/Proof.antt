@@ -35,7 +35,7 @@ put-bytes-requires : tie.Need-put-bytes-requires
 put-bytes-requires c κs = search needs
 
 returns : tie.Need-returns
-returns c = 
+returns c =
     let fourth = c .before .before .before in
     let third = fourth .before .before .before in
     let second = third .before .before .before in

@@ -29,7 +29,7 @@ put-bytes-requires : tie.Need-put-bytes-requires
 put-bytes-requires c κs = search needs
 
 returns : tie.Need-returns
-returns c = 
+returns c =
     let third = c .before .before .before in
     let second = third .before .before .before in
     let first = second .before .before .before in

@@ -20,7 +20,7 @@ first-broken-requires : tie.Need-first-broken-requires
 first-broken-requires c κs = search needs
 
 returns : tie.Need-returns
-returns c = 
+returns c =
     let start = c .before .before .before .before in
     let a = start .args in
     let e = broken-is (rowAt (a .t .now)) (a .n) (a .i) (plain (a .a)) (plain (a .b)) (plain (a .x)) (start .pre .1 .1 .0) (start .pre .1 .1 .1) in

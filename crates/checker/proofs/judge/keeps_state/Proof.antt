@@ -21,7 +21,7 @@ rule9-requires : tie.Need-rule9-requires
 rule9-requires c κs = search needs
 
 returns : tie.Need-returns
-returns c = 
+returns c =
     let looked = c .before in
     let context = looked .before in
     let branch = context .before .before in

@@ -33,18 +33,18 @@ read-row-requires : tie.Need-read-row-requires Inv-loop μ-loop
 read-row-requires c κs = omega arith
 
 broken-constraint-requires : tie.Need-broken-constraint-requires Inv-loop μ-loop
-broken-constraint-requires c κs = 
+broken-constraint-requires c κs =
     let l = c .before .before .loop in
     (omega arith, (c .before .loop-test .taken, (l .inv .1, c .read-row .ensures)))
 
 returns : tie.Need-returns Inv-loop μ-loop
-returns c = 
+returns c =
     let judged = c .before in
     let l = judged .before .before .before .loop in
     told-broken _ _ _ _ _ _ (judged .before .before .loop-test .taken) (l .inv .1) (judged .broken-constraint .ensures) (omega arith)
 
 count-row-requires : tie.Need-count-row-requires Inv-loop μ-loop
-count-row-requires c κs = 
+count-row-requires c κs =
     let inside = c .before .before .before in
     let l = inside .before .loop in
     let some = room _ (l .i) (l .c) (omega arith) (l .inv .2) in
@@ -57,7 +57,7 @@ loop-less : tie.Need-loop-less Inv-loop μ-loop
 loop-less c = search needs
 
 loop-again : tie.Need-loop-again Inv-loop μ-loop
-loop-again c = 
+loop-again c =
     let judged = c .before .before in
     let l = judged .before .before .before .loop in
     let x = judged .before .read-row .ensures in
@@ -66,7 +66,7 @@ loop-again c =
     (omega arith, hand-next _ _ _ _ _ _ (l .inv .1) x meets, counted-next _ _ _ _ _ (l .inv .2) x (c .count-row .ensures))
 
 returns-2 : tie.Need-returns-2 Inv-loop μ-loop
-returns-2 c = 
+returns-2 c =
     let l = c .before .loop in
     told-accepted _ _ _ _ _ _ (omega arith) (l .inv .1) (l .inv .2)
 

@@ -1,16 +1,12 @@
+-- `rules::cells::from_comp_zero` meets its contract: the tests in the code's order, and then those of `quotients_zero`, are those over the list.
 use mathlib.Core.Bool.{and-assoc, and-true}
 use borrow.Author.Needs.{needs}
 use Rattle.rules.proofs.cells.from_comp_zero.Statement.{statement}
 use Rattle.rules.proofs.cells.from_comp_zero.Tie as tie
-use Rattle.rules.proofs.cells.from_comp_zero.Reads as reads
-use Rattle.rules.proofs.cells.from_comp_zero.Lts as lts
-use Rattle.rules.proofs.cells.quotients_zero.Reads as quotients-zero-reads
 
--- src/cells.rt:41:11
 quotients-zero-requires : tie.Need-quotients-zero-requires
 quotients-zero-requires c κs = search needs
 
--- src/cells.rt:31:1
 returns : tie.Need-returns
 returns c = simp (c .quotients-zero .ensures, and-assoc, and-true)
 

@@ -1,16 +1,12 @@
-use mathlib.Core.Bool.{and-assoc, and-true}
+-- `rules::cells::from_mem_zero` meets its contract: the tests in the code's order, and then those of `from_comp_zero`, are those over the list.
+use mathlib.Core.Bool.{and-assoc}
 use borrow.Author.Needs.{needs}
 use Rattle.rules.proofs.cells.from_mem_zero.Statement.{statement}
 use Rattle.rules.proofs.cells.from_mem_zero.Tie as tie
-use Rattle.rules.proofs.cells.from_mem_zero.Reads as reads
-use Rattle.rules.proofs.cells.from_mem_zero.Lts as lts
-use Rattle.rules.proofs.cells.from_comp_zero.Reads as from-comp-zero-reads
 
--- src/cells.rt:56:11
 from-comp-zero-requires : tie.Need-from-comp-zero-requires
 from-comp-zero-requires c κs = search needs
 
--- src/cells.rt:48:1
 returns : tie.Need-returns
 returns c = simp (c .from-comp-zero .ensures, and-assoc)
 

@@ -1,12 +1,9 @@
+-- `rules::cycle::rule7` meets its contract: it is the definition.
 use mathlib.Core.Path.{refl}
 use Rattle.model.specs.Constraints.{k7}
-use borrow.Author.Needs.{needs}
 use Rattle.rules.proofs.cycle.rule7.Statement.{statement}
 use Rattle.rules.proofs.cycle.rule7.Tie as tie
-use Rattle.rules.proofs.cycle.rule7.Reads as reads
-use Rattle.rules.proofs.cycle.rule7.Lts as lts
 
--- src/cycle.rt:14:1
 returns : tie.Need-returns
 unfolding k7
 returns c = refl

@@ -1,12 +1,9 @@
+-- `rules::steps::rule1` meets its contract: it is the definition.
 use mathlib.Core.Path.{refl}
 use Rattle.model.specs.Constraints.{k1}
-use borrow.Author.Needs.{needs}
 use Rattle.rules.proofs.steps.rule1.Statement.{statement}
 use Rattle.rules.proofs.steps.rule1.Tie as tie
-use Rattle.rules.proofs.steps.rule1.Reads as reads
-use Rattle.rules.proofs.steps.rule1.Lts as lts
 
--- src/steps.rt:16:1
 returns : tie.Need-returns
 unfolding k1
 returns c = refl

@@ -1,24 +1,22 @@
-use Rattle.model.specs.Constraints.{k6}
+-- `rules::steps::rule6` meets its contract: with STAMP not 0 there is nothing to test, else `all_zero` is the test.
+use mathlib.Core.Path.{_∙_}
+use borrow.Author.Tests.{ne-eqb, eq-eqb}
 use borrow.Author.Needs.{needs}
+use Rattle.model.specs.Constraints.{k6}
+use Rattle.rules.proofs.WordLaws.{made}
 use Rattle.rules.proofs.steps.rule6.Statement.{statement}
 use Rattle.rules.proofs.steps.rule6.Tie as tie
-use Rattle.rules.proofs.steps.rule6.Reads as reads
-use Rattle.rules.proofs.steps.rule6.Lts as lts
-use Rattle.rules.proofs.cells.all_zero.Reads as all-zero-reads
-use Rattle.rules.proofs.words.implies.Reads as implies-reads
 
--- src/steps.rt:58:32
+returns : tie.Need-returns
+unfolding k6
+returns c = rw (ne-eqb _ _ (c .if1 .taken))
+
 all-zero-requires : tie.Need-all-zero-requires
 all-zero-requires c κs = search needs
 
--- src/steps.rt:58:5
-implies-requires : tie.Need-implies-requires
-implies-requires c κs = search needs
-
--- src/steps.rt:55:1
-returns : tie.Need-returns
+returns-2 : tie.Need-returns-2
 unfolding k6
-returns c = cc
+returns-2 c = c .all-zero .ensures ∙ made (eq-eqb _ _ (c .before .if1 .left))
 
 pub rule6-spec : {M : Type 1} → statement M
-rule6-spec = tie.close (tie.spec all-zero-requires implies-requires returns)
+rule6-spec = tie.close (tie.spec returns all-zero-requires returns-2)

@@ -1,12 +1,9 @@
+-- `rules::within::rule15` meets its contract: it is the definition.
 use mathlib.Core.Path.{refl}
 use Rattle.model.specs.Constraints.{k15}
-use borrow.Author.Needs.{needs}
 use Rattle.rules.proofs.within.rule15.Statement.{statement}
 use Rattle.rules.proofs.within.rule15.Tie as tie
-use Rattle.rules.proofs.within.rule15.Reads as reads
-use Rattle.rules.proofs.within.rule15.Lts as lts
 
--- src/within.rt:64:1
 returns : tie.Need-returns
 unfolding k15
 returns c = refl

@@ -1,71 +1,64 @@
+-- `rules::within::rule22` meets its contract: each word in it is put for what it says, from the last to the first.
+use borrow.Author.Needs.{needs}
 use Rattle.gas.specs.Gas.{joined}
 use Rattle.model.specs.Constraints.{k22}
-use borrow.Author.Needs.{needs}
 use Rattle.rules.proofs.within.rule22.Statement.{statement}
 use Rattle.rules.proofs.within.rule22.Tie as tie
-use Rattle.rules.proofs.within.rule22.Reads as reads
-use Rattle.rules.proofs.within.rule22.Lts as lts
-use Rattle.rules.proofs.within.is_square.Reads as is-square-reads
-use Rattle.rules.proofs.words.byte.Reads as byte-reads
-use Rattle.rules.proofs.words.implies.Reads as implies-reads
-use Rattle.rules.proofs.words.wide.Reads as wide-reads
 
--- src/within.rt:148:9
 wide-requires : tie.Need-wide-requires
 wide-requires c κs = search needs
 
--- src/within.rt:149:18
 mul-joined : tie.Need-mul-joined
 mul-joined c = search needs
 
--- src/within.rt:149:47
 byte-requires : tie.Need-byte-requires
 byte-requires c κs = search needs
 
--- src/within.rt:149:40
 mul-joined-2 : tie.Need-mul-joined-2
 mul-joined-2 c = search needs
 
--- src/within.rt:149:18
 add-joined : tie.Need-add-joined
 add-joined c = search needs
 
--- src/within.rt:149:67
 byte-requires-2 : tie.Need-byte-requires-2
 byte-requires-2 c κs = search needs
 
--- src/within.rt:149:18
 add-joined-2 : tie.Need-add-joined-2
 add-joined-2 c = search needs
 
--- src/within.rt:151:18
 wide-requires-2 : tie.Need-wide-requires-2
 wide-requires-2 c κs = search needs
 
--- src/within.rt:151:55
 byte-requires-3 : tie.Need-byte-requires-3
 byte-requires-3 c κs = search needs
 
--- src/within.rt:151:39
 mul-holds : tie.Need-mul-holds
 mul-holds c = search needs
 
--- src/within.rt:151:18
 add-holds : tie.Need-add-holds
 add-holds c = search needs
 
--- src/within.rt:152:11
 is-square-requires : tie.Need-is-square-requires
 is-square-requires c κs = search needs
 
--- src/within.rt:153:5
 implies-requires : tie.Need-implies-requires
 implies-requires c κs = search needs
 
--- src/within.rt:145:1
 returns : tie.Need-returns
 unfolding k22 joined
-returns c = cc
+returns c =
+    let square = c .before .before .before in
+    let sum = square .before in
+    let parts = sum .before .before .before in
+    rw (
+      c .implies .ensures,
+      square .is-square .ensures,
+      sum .byte3 .ensures .0,
+      sum .before .wide2 .ensures .0,
+      parts .byte2 .ensures .0,
+      parts .before .byte .ensures .0,
+      parts .before .before .wide .ensures .0,
+    )
 
 pub rule22-spec : {M : Type 1} → statement M
 rule22-spec =

@@ -1,16 +1,13 @@
+-- `rules::words::is_difference` meets its contract: it is the definition.
 use mathlib.Core.Path.{refl}
-use Rattle.model.specs.Tests.{isDifference}
 use borrow.Author.Needs.{needs}
+use Rattle.model.specs.Tests.{isDifference}
 use Rattle.rules.proofs.words.is_difference.Statement.{statement}
 use Rattle.rules.proofs.words.is_difference.Tie as tie
-use Rattle.rules.proofs.words.is_difference.Reads as reads
-use Rattle.rules.proofs.words.is_difference.Lts as lts
 
--- src/words.rt:74:5
 add-result : tie.Need-add-result
 add-result c = search needs
 
--- src/words.rt:70:1
 returns : tie.Need-returns
 unfolding isDifference
 returns c = refl

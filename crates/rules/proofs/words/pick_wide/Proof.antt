@@ -1,14 +1,10 @@
-use borrow.Author.Needs.{needs}
+-- `rules::words::pick_wide` meets its contract: in either branch the value is the one that is picked.
 use Rattle.rules.proofs.words.pick_wide.Statement.{statement}
 use Rattle.rules.proofs.words.pick_wide.Tie as tie
-use Rattle.rules.proofs.words.pick_wide.Reads as reads
-use Rattle.rules.proofs.words.pick_wide.Lts as lts
 
--- src/words.rt:63:1
 returns : tie.Need-returns
 returns c = cc
 
--- src/words.rt:63:1
 returns-2 : tie.Need-returns-2
 returns-2 c = cc
 
