@@ -1,15 +1,14 @@
 -- The counts of rows, counted row by row.
 use Prim.Native.Nat.{ℕ, zero, suc, _+_, _≤_}
 use mathlib.Core.Bool.{Bool, true, false, not, _&&_}
-use mathlib.Core.List.{List, [], _∷_, _++_, append-nil}
-use mathlib.Core.Path.{_≡_, refl, sym, _∙_, ap}
-use native.Mathlib.Nat.{add-zero, add-suc}
+use mathlib.Core.List.{List, [], _∷_, _++_}
+use mathlib.Core.Path.{_≡_, refl, _∙_, ap}
 use native.Mathlib.Omega.{arith}
 use lib.Dec.{eqb}
 use lib.ListN.{length, length-append}
 use Rattle.model.specs.Columns.{Cells, table}
 use Rattle.model.specs.Constraints.{inUse}
-use Rattle.model.specs.Cycles.{Cycle, Counts, starts, cyclesFrom, cycles, count, isOob, emptyRows, counts}
+use Rattle.model.specs.Cycles.{Cycle, Counts, starts, cyclesFrom, count, isOob, emptyRows, counts}
 use Rattle.model.specs.Tests.{pick, bit}
 use Rattle.model.proofs.ReadBack.{cycles-join, count-join}
 use Rattle.model.proofs.TableOf.{table-snoc}

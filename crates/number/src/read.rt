@@ -14,17 +14,17 @@ fn as_u64(x: u32) -> u64
     x as u64
 }
 
-// The number in two bytes, and in three.
-fn two(a: u8, b: u8) -> u32
-    ensures { λ r. ⌜ (r ≡ a * 256 + b) × (r < 65536) ⌝ }
-{
-    (a as u32) * 256 + (b as u32)
-}
-
+// The number in three bytes, and in four.
 fn three(a: u8, b: u8, c: u8) -> u32
     ensures { λ r. ⌜ (r ≡ (a * 256 + b) * 256 + c) × (r < 16777216) ⌝ }
 {
-    two(a, b) * 256 + (c as u32)
+    ((a as u32) * 256 + (b as u32)) * 256 + (c as u32)
+}
+
+fn four(a: u8, b: u8, c: u8, d: u8) -> u32
+    ensures { λ r. ⌜ r ≡ ((a * 256 + b) * 256 + c) * 256 + d ⌝ }
+{
+    three(a, b, c) * 256 + (d as u32)
 }
 
 // The byte at p.
@@ -48,7 +48,7 @@ pub fn u32_at(t: &[u8], p: usize) -> u32
     requires { ⌜ p + 4 ≤ length (now t) ⌝ }
     ensures { λ r. ⌜ r ≡ num (now (t .entry)) p 4 ⌝ }
 {
-    two(t[p], t[p + 1]) * 65536 + two(t[p + 2], t[p + 3])
+    four(t[p], t[p + 1], t[p + 2], t[p + 3])
 }
 
 // The number in the eight bytes from p on, by its halves.

@@ -1,17 +1,13 @@
 -- Laws of bytes put into a buffer: two runs join to one, and a line put at the start is what the buffer begins with.
 use Prim.Native.Nat.{ℕ, suc, _+_, _≤_, _<_}
-use mathlib.Core.List.{List, [], _∷_, _++_}
+use mathlib.Core.List.{List, _++_}
 use mathlib.Core.Path.{_≡_, sym, _∙_, ap}
-use native.Mathlib.Nat.{add-zero, add-suc, suc-add, zero-add}
+use native.Mathlib.Nat.{zero-add}
 use native.Mathlib.Omega.{arith}
 use lib.ListN.{length, take, drop, getD, set, length-append, take-append-drop}
 use lib.Seq.{sets, sets-eq, take-suc, length-sets, length-take-le, take-append-seam, drop-append-seam}
+use Rattle.number.proofs.StoreLaws.{sets-append}
 use Rattle.text.specs.Line.{Put, Front}
-
--- two runs of stores, the second where the first ends, are one
-pub sets-append : (l : List ℕ) (i : ℕ) (a b : List ℕ) → sets (sets l i a) (i + length a) b ≡ sets l i (a ++ b)
-sets-append l i [] b = rw add-zero
-sets-append l i (x ∷ a) b = rw (add-suc, ← suc-add) (sets-append (set l i x) (suc i) a b)
 
 -- a turn of a copying loop: the byte at place i of s is stored behind the i bytes before it
 pub sets-next : (l : List ℕ) (at : ℕ) (s : List ℕ) (i : ℕ) → i < length s

@@ -4,7 +4,6 @@ use borrow.Fn.Kinds.{Dens, endedOf}
 use denote.Ref.{now}
 use denote.Triple.Clauses.{AtExit}
 use Prim.Native.Nat.{ℕ}
-use mathlib.Core.List.{List}
 use mathlib.Core.Path.{_≡_}
 use Rattle.text.proofs.PutLaws.{front-one}
 use Rattle.text.specs.Line.{Front}

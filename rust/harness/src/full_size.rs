@@ -33,10 +33,15 @@ pub fn compare_all() -> Outcome<usize> {
     Ok(count)
 }
 
-/// Instructions in bounds of many contexts: growing, staying and touching nothing.
-pub fn in_bounds(empty_rows: usize) -> Draft {
-    let claim = |step: u32| Claim::small(1 + step % 97, step * 761 % 0x00ff_ffff, step % 5 * 4_001);
+/// Instructions in bounds of some contexts in turn: growing, staying and touching nothing.
+pub fn in_bounds_of(contexts: u32, empty_rows: usize) -> Draft {
+    let claim = |step: u32| Claim::small(1 + step % contexts, step * 761 % 0x00ff_ffff, step % 5 * 4_001);
     Draft::new(empty_rows, &(0..IN_BOUNDS).map(claim).collect::<Vec<_>>())
+}
+
+/// Instructions in bounds of many contexts.
+pub fn in_bounds(empty_rows: usize) -> Draft {
+    in_bounds_of(97, empty_rows)
 }
 
 /// Instructions in bounds, each of a context of its own.

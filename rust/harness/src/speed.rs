@@ -6,7 +6,7 @@ use std::time::{Duration, Instant};
 use reference::{Draft, MAX_ROWS, ROW_BYTES};
 
 use crate::Outcome;
-use crate::full_size::{all_contexts, empty, in_bounds, out_of_bounds};
+use crate::full_size::{all_contexts, empty, in_bounds_of, out_of_bounds};
 use crate::library::{self, Answer};
 
 /// A trace is checked again until so much time has gone, and the quickest time counts.
@@ -16,7 +16,8 @@ const TOO_LONG: Duration = Duration::from_secs(10);
 
 /// Measures and prints.
 pub fn measure_all() -> Outcome<()> {
-    measure("in bounds", &in_bounds(1))?;
+    measure("in bounds, 5 contexts in turn", &in_bounds_of(5, 1))?;
+    measure("in bounds, 97 contexts in turn", &in_bounds_of(97, 1))?;
     measure("out of bounds", &out_of_bounds(1))?;
     measure("empty rows", &empty(MAX_ROWS))?;
     measure("a context for each instruction", &all_contexts())
