@@ -24,10 +24,7 @@ length-added false c = refl
 
 oob-added : (t : Bool) (c : Cycle) → count isOob (added t c) ≡ bit (t && isOob c)
 unfolding count
-oob-added true c = go (isOob c)
-  where
-    go : (b : Bool) → pick b 1 0 ≡ bit b
-    go b = refl
+oob-added true c = refl
 oob-added false c = refl
 
 empty-one : (y : Cells) → emptyRows (y ∷ []) ≡ bit (not (inUse y))
