@@ -1,46 +1,31 @@
 -- Where a row starts a cycle, and what constraint 9 asks of it there.
 use Prim.Native.Nat.{ℕ, zero, suc}
 use mathlib.Core.Bool.{true, false, false≢true, not}
-use mathlib.Core.Logic.{_≢_, _⊎_, inl, inr}
+use mathlib.Core.Logic.{_≢_, inl}
 use mathlib.Core.Path.{_≡_, refl, ap}
 use native.Mathlib.Decide.{ℕ-discrete}
 use native.Mathlib.Omega.{arith}
 use borrow.Author.Tests.{eq-eqb, ne-eqb}
 use lib.Dec.{eqb}
 use Rattle.model.specs.Columns.{Cells}
-use Rattle.model.specs.Constraints.{lastCt, inUse, k3, k4, k9}
+use Rattle.model.specs.Constraints.{inUse, k3, k4, k9}
 use Rattle.model.specs.Cycles.{Looked, starts}
 use Rattle.model.specs.State.{Context, State, contextOf}
-use Rattle.model.specs.Steps.{stampMoves}
 use Rattle.model.specs.Tests.{pick}
 use Rattle.model.specs.Verdict.{rowBefore}
-use Rattle.model.proofs.StepLaws.{stamp-inside, ct-inside}
 use Rattle.model.proofs.TestFacts.{implies-use}
 use Rattle.state.specs.Look.{lookBack}
-use Rattle.state.proofs.LookLaws.{Between}
+use Rattle.state.proofs.LookLaws.{Between, stamp-before-new}
 use Rattle.checker.specs.Rows.{asked}
-
-over-before : (b x : Cells) → stampMoves (b .stamp) (b .ct) (lastCt (b .ooob)) (x .stamp) ≡ true → k4 b x ≡ true → x .stamp ≢ 0 → x .ct ≡ 0
-    → (b .stamp ≡ 0) ⊎ (b .ct ≡ lastCt (b .ooob))
-unfolding k4
-over-before b x s c u z = go (ℕ-discrete (b .stamp) 0) (ℕ-discrete (b .ct) (lastCt (b .ooob)))
-  where
-    go : Dec (b .stamp ≡ 0) → Dec (b .ct ≡ lastCt (b .ooob)) → (b .stamp ≡ 0) ⊎ (b .ct ≡ lastCt (b .ooob))
-    go (yes e) d = inl e
-    go (no e) (yes l) = inr l
-    go (no e) (no l) =
-        let same : x .stamp ≡ b .stamp = stamp-inside (b .stamp) (b .ct) (lastCt (b .ooob)) (x .stamp) e l s in
-        let more : x .ct ≡ suc (b .ct) = ct-inside (b .stamp) (b .ct) (x .stamp) (x .ct) u same c in
-        absurd (omega (arith, more, z))
 
 -- a row that meets 3 and 4 and starts a cycle comes after an empty row or the last of a cycle
 pub between : (r : ℕ → Cells) (i : ℕ) (x : Cells) → k3 (eqb i 0) (rowBefore r i) x ≡ true → k4 (rowBefore r i) x ≡ true
     → x .stamp ≢ 0 → x .ct ≡ 0 → Between r i
-unfolding k3
+unfolding k3 k4
 between r zero x s c u z = inl refl
 between r (suc i) x s c u z =
     let later : not (eqb (suc i) 0) ≡ true = ap not (ne-eqb (suc i) 0 (λ e. absurd (omega arith))) in
-    over-before (r i) x (implies-use (not (eqb (suc i) 0)) _ s later) c u z
+    stamp-before-new _ _ _ _ _ (implies-use (not (eqb (suc i) 0)) _ s later) c u z .1
 
 -- the answer to 9 for a row of an instruction, asked only where a cycle starts
 pub asked-where-starts : (x : Cells) (s t : State) → inUse x ≡ true → (x .ct ≡ 0 → s ≡ t) → pick (starts x) (k9 s x) true ≡ k9 t x

@@ -66,7 +66,8 @@ stamp-before-empty s ct last t h e = go (ℕ-discrete s 0) (ℕ-discrete ct last
     go (no z) (yes k) = absurd (omega (arith, stamp-over s ct last t z k h))
     go (no z) (no k) = absurd (omega (arith, stamp-inside s ct last t z k h))
 
-stamp-before-new : (s ct last t u : ℕ) → stampMoves s ct last t ≡ true → ctMoves s ct t u ≡ true → t ≢ 0 → u ≡ 0
+-- a row that starts a cycle has the next STAMP, and comes after an empty row or the last of a cycle
+pub stamp-before-new : (s ct last t u : ℕ) → stampMoves s ct last t ≡ true → ctMoves s ct t u ≡ true → t ≢ 0 → u ≡ 0
     → (t ≡ suc s) × ((s ≡ 0) ⊎ (ct ≡ last))
 stamp-before-new s ct last t u h k used e = go (ℕ-discrete s 0) (ℕ-discrete ct last)
   where
