@@ -1,6 +1,6 @@
 #!/usr/bin/env bash
-# `verify` prints for each vector of data/verify the line that expected.txt says, also if the input comes in parts, and nothing but a
-# complaint if it cannot read its input. Document 01 says nothing of its exit status; only one of a time-out or a crash is a failure.
+# `verify` prints for each vector of data/verify the line that expected.txt says, also if the input comes in parts and from another folder by
+# bin/verify, and nothing but a complaint if it cannot read its input. Document 01 says nothing of its exit status; only one of a time-out or a crash is a failure.
 set -euo pipefail
 root=$(cd "$(dirname "${BASH_SOURCE[0]}")/.." && pwd)
 program=$root/target/bin/verify
@@ -45,6 +45,9 @@ IFS=$'\t' read -r name line < <(grep -m 1 '^accepted_sample' "$vectors/expected.
 whole=$vectors/$name.trace
 verify < <(head -c 1000 "$whole"; sleep 0.2; tail -c +1001 "$whole") || fail "$name in parts: no answer"
 printed "$name in parts" "$line"
+
+(cd "$room" && "$root/bin/verify" < "$whole" > out)
+printed "$name by bin/verify" "$line"
 
 verify < "$room" || fail "a folder as input: no end"
 [ ! -s "$room/out" ] && [ -s "$room/said" ] || fail "a folder as input: not just a complaint"

@@ -67,7 +67,7 @@ fn count_row(c: Counts, x: Row) -> Counts
 }
 
 // The verdict on n whole rows.
-pub fn verdict_on(t: &[u8], n: usize) -> Verdict
+pub(crate) fn verdict_on(t: &[u8], n: usize) -> Verdict
     requires { ⌜ n * rowBytes ≤ length (now t) ⌝ }
     requires { ⌜ n ≤ maxRows ⌝ }
     ensures { λ r. ⌜ r ≡ told (verdictBy (judged (brokenAt (rowAt (now (t .entry))) n) n) (Cycles·counts (table n (rowAt (now (t .entry)))))) ⌝ }
