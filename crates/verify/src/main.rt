@@ -46,25 +46,25 @@ fn read_input(buf: &mut [u8]) -> Input
     Input::Bytes(done)
 }
 
-// The line of an accepted trace, at the start of out.
+// The line of an accepted trace, at the start of out: a place after each field.
 fn put_accepted(out: &mut [u8; LINE_BYTES], c: Counts) -> usize
     ensures { λ r. ⌜ Front (now (out .entry)) (line (Accepted c)) (now (out .exit)) r ⌝ }
 {
-    let a = put_field(out, 0, b"accepted=", 1);
-    let b = put_field(out, a, b" instructions=", c.instructions);
-    let d = put_field(out, b, b" oob=", c.oob);
-    let e = put_field(out, d, b" empty=", c.empty);
-    put_bytes(out, e, b"\n")
+    let one = put_field(out, 0, b"accepted=", 1);
+    let two = put_field(out, one, b" instructions=", c.instructions);
+    let three = put_field(out, two, b" oob=", c.oob);
+    let four = put_field(out, three, b" empty=", c.empty);
+    put_bytes(out, four, b"\n")
 }
 
 // The line of a trace that breaks a constraint, at the start of out.
 fn put_broken(out: &mut [u8; LINE_BYTES], row: u64, constraint: u64) -> usize
     ensures { λ r. ⌜ Front (now (out .entry)) (line (Broken row constraint)) (now (out .exit)) r ⌝ }
 {
-    let a = put_field(out, 0, b"accepted=", 0);
-    let b = put_field(out, a, b" row=", row);
-    let d = put_field(out, b, b" constraint=", constraint);
-    put_bytes(out, d, b"\n")
+    let one = put_field(out, 0, b"accepted=", 0);
+    let two = put_field(out, one, b" row=", row);
+    let three = put_field(out, two, b" constraint=", constraint);
+    put_bytes(out, three, b"\n")
 }
 
 // The line printed for the bytes read, at the start of out.
