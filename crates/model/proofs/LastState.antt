@@ -65,7 +65,7 @@ last-place rows x = look-place x (reverse (cycles rows))
 -- ---- in the trace of claims
 
 -- the last of the cycles is looked at first
-pub look-snoc : (x : Context) (cs : List Cycle) (c : Cycle)
+look-snoc : (x : Context) (cs : List Cycle) (c : Cycle)
     → look x (reverse (cs ++ (c ∷ []))) .state ≡ pick (sameContext (contextOf (c .row)) x) (stateOf (c .row)) (look x (reverse cs) .state)
 unfolding look
 look-snoc x cs c = rw (reverse-append cs (c ∷ [])) (sym (pick-under (λ (a : Looked). a .state) (sameContext (contextOf (c .row)) x) _ _))

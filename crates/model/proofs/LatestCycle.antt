@@ -1,7 +1,7 @@
 -- Where all earlier rows hold, the state that constraint 9 looks at is that of the latest earlier cycle with the context.
 use Prim.Native.Nat.{ℕ, zero, suc, _+_, _<_}
 use mathlib.Core.Bool.{Bool, true, false, false≢true, not, _&&_}
-use mathlib.Core.List.{List, [], _∷_, _++_, reverse, append-nil}
+use mathlib.Core.List.{List, [], _∷_, _++_, reverse, reverse-append, append-nil}
 use mathlib.Core.Path.{_≡_, refl, sym, _∙_, ap}
 use native.Mathlib.Nat.{le-step, lt-suc-self}
 use native.Mathlib.Omega.{arith}
@@ -10,14 +10,13 @@ use lib.Dec.{eqb}
 use lib.ListN.{length}
 use Rattle.model.specs.Columns.{Cells, table}
 use Rattle.model.specs.Constraints.{inUse, kept, k4, k8, constraint}
-use Rattle.model.specs.Cycles.{Claim, starts, cyclesFrom, cycles, look, lastState}
+use Rattle.model.specs.Cycles.{Claim, Looked, starts, cyclesFrom, cycles, look, lastState}
 use Rattle.model.specs.Promises.{AllHold}
 use Rattle.model.specs.State.{Context, State, sameContext, contextOf, stateOf, put}
 use Rattle.model.specs.Tests.{pick}
 use Rattle.model.specs.Verdict.{rowBefore, passed, before}
 use Rattle.model.proofs.ConstraintFacts.{says8}
 use Rattle.model.proofs.CycleRows.{claim-kept, left-kept}
-use Rattle.model.proofs.LastState.{look-snoc}
 use Rattle.model.proofs.ReadBack.{cycles-join}
 use Rattle.model.proofs.StepLaws.{same-stamp}
 use Rattle.model.proofs.TableOf.{table-snoc}
@@ -25,16 +24,33 @@ use Rattle.model.proofs.TestFacts.{implies-use, pick-second}
 
 -- ---- the latest cycle, with one row more
 
--- the row's state where it starts a cycle of the context
-last-snoc : (xs : List Cells) (y : Cells) (x : Context)
-    → lastState (xs ++ (y ∷ [])) x .state ≡ pick (starts y && sameContext (contextOf y) x) (stateOf y) (lastState xs x .state)
-unfolding lastState cyclesFrom
-last-snoc xs y x = rw (cycles-join 0 xs (y ∷ [])) (go (starts y))
+-- a cycle with the row y is looked at, and then the rest
+abbrev pub through : Context → Cells → Looked → Looked
+through x y rest =
+    pick (sameContext (contextOf y) x) (record { state = stateOf y; cycles = 1 }) (record { state = rest .state; cycles = suc (rest .cycles) })
+
+-- the row's cycle is looked at first, where it starts one
+pub last-snoc : (x : Context) (ys : List Cells) (y : Cells)
+    → lastState (ys ++ (y ∷ [])) x ≡ pick (starts y) (through x y (lastState ys x)) (lastState ys x)
+unfolding lastState cyclesFrom look
+last-snoc x ys y = rw (cycles-join 0 ys (y ∷ [])) (go (starts y))
   where
-    go : (t : Bool) → look x (reverse (cycles xs ++ pick t (record { first = 0 + length xs; row = y } ∷ []) [])) .state
-        ≡ pick (t && sameContext (contextOf y) x) (stateOf y) (look x (reverse (cycles xs)) .state)
-    go true = look-snoc x (cycles xs) (record { first = 0 + length xs; row = y })
+    go : (t : Bool) → look x (reverse (cycles ys ++ pick t (record { first = 0 + length ys; row = y } ∷ []) []))
+        ≡ pick t (through x y (look x (reverse (cycles ys)))) (look x (reverse (cycles ys)))
+    go true = rw (reverse-append (cycles ys) (record { first = 0 + length ys; row = y } ∷ []))
     go false = rw append-nil
+
+-- the state is the row's where it starts a cycle of the context
+state-snoc : (xs : List Cells) (y : Cells) (x : Context)
+    → lastState (xs ++ (y ∷ [])) x .state ≡ pick (starts y && sameContext (contextOf y) x) (stateOf y) (lastState xs x .state)
+state-snoc xs y x = ap (λ (a : Looked). a .state) (last-snoc x xs y) ∙ go (starts y) (sameContext (contextOf y) x) (lastState xs x)
+  where
+    go : (t u : Bool) (rest : Looked)
+        → pick t (pick u (record { state = stateOf y; cycles = 1 }) (record { state = rest .state; cycles = suc (rest .cycles) })) rest .state
+        ≡ pick (t && u) (stateOf y) (rest .state)
+    go true true rest = refl
+    go true false rest = refl
+    go false u rest = refl
 
 -- ---- the state before a row, with one row more
 
@@ -83,7 +99,7 @@ module _ (r : ℕ → Cells) (n : ℕ) where
   latest-next : (i : ℕ) → AllHold r n i → (x : Context) → before r i x ≡ lastState (table i r) x .state
       → before r (suc i) x ≡ lastState (table (suc i) r) x .state
   unfolding before
-  latest-next i h x e = rw (table-snoc i r, last-snoc, ← e) (passed-row i h x)
+  latest-next i h x e = rw (table-snoc i r, state-snoc, ← e) (passed-row i h x)
 
   -- where all constraints hold below row i, the state before it is that of the latest earlier cycle with the context; 0, 0 if there is none
   pub latest-cycle : (i : ℕ) → ((j : ℕ) → j < i → AllHold r n j) → (x : Context) → before r i x ≡ lastState (table i r) x .state

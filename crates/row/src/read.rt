@@ -1,4 +1,5 @@
-// A row read from the bytes of a trace: straight on, cell by cell.
+// A row read from the bytes of a trace: straight on, cell by cell. Only crates of this repository call these functions: each asks that the
+// row is there.
 ghost use mathlib.Core.Path.{_≡_};
 ghost use Prim.Native.Nat.{_+_, _*_, _≤_};
 ghost use lib.ListN.{length};

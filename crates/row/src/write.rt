@@ -1,4 +1,5 @@
-// A row written to a lent buffer, cell by cell; the bytes outside of it stay.
+// A row written to a lent buffer, cell by cell; the bytes outside of it stay. Only crates of this repository call `put_row`: it asks that
+// there is room for the row.
 ghost use mathlib.Core.Path.{_≡_};
 ghost use Prim.Native.Nat.{_+_, _*_, _≤_};
 ghost use lib.ListN.{length};

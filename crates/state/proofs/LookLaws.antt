@@ -1,7 +1,6 @@
 -- Where the rows before hold the constraints, the look-up answers what the model does: the state before the row, and how many cycles it looks at.
 use Prim.Native.Nat.{ℕ, zero, suc, _+_, _-_, _<_}
 use mathlib.Core.Bool.{Bool, true, false}
-use mathlib.Core.List.{List, [], _∷_, _++_, reverse, reverse-append, append-nil}
 use mathlib.Core.Logic.{_≢_, _⊎_, inl, inr}
 use mathlib.Core.Path.{_≡_, refl, sym, _∙_, ap}
 use native.Mathlib.Decide.{ℕ-discrete}
@@ -9,7 +8,6 @@ use native.Mathlib.Nat.{le-step, lt-suc-self}
 use native.Mathlib.Omega.{arith}
 use borrow.Author.Tests.{eqb-true, ne-eqb}
 use lib.Dec.{eqb·suc-zero}
-use lib.ListN.{length}
 use Rattle.model.specs.Columns.{Cells, table}
 use Rattle.model.specs.Constraints.{lastCt, inUse, kept, k2, k3, k4, constraint}
 use Rattle.model.specs.Cycles.{Claim, Looked, starts, cyclesFrom, cycles, look, lastState}
@@ -20,8 +18,7 @@ use Rattle.model.specs.Tests.{pick}
 use Rattle.model.specs.Verdict.{rowBefore, before}
 use Rattle.model.proofs.ConstraintFacts.{says8}
 use Rattle.model.proofs.CycleRows.{claim-kept, left-kept}
-use Rattle.model.proofs.LatestCycle.{latest-cycle}
-use Rattle.model.proofs.ReadBack.{cycles-join}
+use Rattle.model.proofs.LatestCycle.{through, last-snoc, latest-cycle}
 use Rattle.model.proofs.RowFacts.{in-use, of-used}
 use Rattle.model.proofs.StepLaws.{stamp-after-empty, stamp-inside, stamp-over, ct-inside, same-stamp}
 use Rattle.model.proofs.TableOf.{table-snoc}
@@ -38,23 +35,6 @@ HoldBefore r n i = (j : ℕ) → j < i → AllHold r n j
 -- before row i no cycle has begun, or one ends with the row before
 abbrev pub Between : (ℕ → Cells) → ℕ → Type 0
 Between r i = (rowBefore r i .stamp ≡ 0) ⊎ (rowBefore r i .ct ≡ lastCt (rowBefore r i .ooob))
-
--- ---- the model's answer, with one row more
-
--- a cycle with the row y is looked at, and then the rest
-abbrev through : Context → Cells → Looked → Looked
-through x y rest =
-    pick (sameContext (contextOf y) x) (record { state = stateOf y; cycles = 1 }) (record { state = rest .state; cycles = suc (rest .cycles) })
-
-last-snoc : (x : Context) (ys : List Cells) (y : Cells)
-    → lastState (ys ++ (y ∷ [])) x ≡ pick (starts y) (through x y (lastState ys x)) (lastState ys x)
-unfolding lastState cyclesFrom look
-last-snoc x ys y = rw (cycles-join 0 ys (y ∷ [])) (go (starts y))
-  where
-    go : (t : Bool) → look x (reverse (cycles ys ++ pick t (record { first = 0 + length ys; row = y } ∷ []) []))
-        ≡ pick t (through x y (look x (reverse (cycles ys)))) (look x (reverse (cycles ys)))
-    go true = rw (reverse-append (cycles ys) (record { first = 0 + length ys; row = y } ∷ []))
-    go false = rw append-nil
 
 -- ---- from a row to the row before
 

@@ -1,4 +1,5 @@
-// The look-up of a context's state before a row of a trace: back cycle by cycle, over any bytes.
+// The look-up of a context's state before a row of a trace: back cycle by cycle, over any bytes. Only crates of this repository call these
+// functions: each asks that the rows before are there.
 ghost use mathlib.Core.Path.{_≡_};
 ghost use Prim.Native.Nat.{_+_, _*_, _≤_};
 ghost use lib.ListN.{length};
