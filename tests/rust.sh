@@ -1,6 +1,6 @@
 #!/usr/bin/env bash
 # The Rust side: the reference passes its tests, the kept vectors are those that it makes, and the built library answers as it does on
-# full-size and random traces.
+# full-size and random traces and lists.
 set -euo pipefail
 root=$(cd "$(dirname "${BASH_SOURCE[0]}")/.." && pwd)
 room=$(mktemp -d)
@@ -19,11 +19,13 @@ passed=$(($(sed -n 's/^test result: ok\. \([0-9]*\) passed.*/\1/p' "$room/log" |
 [ "$passed" -gt 0 ] || fail "the reference has no tests"
 echo "reference: $passed tests passed"
 
-quietly "$root/tools/verify_vectors" "$room/vectors"
-diff -r "$room/vectors" "$root/data/verify" >&2 || fail "data/verify differs from what the reference makes (tools/verify_vectors)"
-echo "data/verify: $(cat "$room/log") as the reference makes them"
+for kind in verify list; do
+    quietly "$root/tools/${kind}_vectors" "$room/$kind"
+    diff -r "$room/$kind" "$root/data/$kind" >&2 || fail "data/$kind differs from what the reference makes (tools/${kind}_vectors)"
+    echo "data/$kind: $(cat "$room/log") as the reference makes them"
+done
 
 library=$root/target/staticlib/libmxp.a
 [ -f "$library" ] || (cd "$root" && quietly rt staticlib mxp)
 MXP_LIB_DIR=$(dirname "$library") quietly cargo_in_rust build --package harness
-"$CARGO_TARGET_DIR/release/full" "$root/data/verify"
+"$CARGO_TARGET_DIR/release/full" "$root/data/verify" "$root/data/list"

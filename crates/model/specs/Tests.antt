@@ -1,14 +1,10 @@
 -- The words in which the constraints are written: tests on whole numbers.
 use Prim.Native.Nat.{ℕ, _+_, _*_}
-use mathlib.Core.Bool.{Bool, true, false, not, _||_}
+use mathlib.Core.Bool.{Bool, not, _||_}
 use mathlib.Core.List.{List}
 use lib.Dec.{eqb}
 use Rattle.number.specs.Tables.{every}
-
--- the first where the test passes, else the second
-abbrev pub pick : {A : Type 0} → Bool → A → A → A
-pick true a b = a
-pick false a b = b
+pub use Rattle.number.specs.Tests.{pick}
 
 -- the second test has to pass where the first does
 abbrev pub implies : Bool → Bool → Bool

@@ -1,7 +1,13 @@
 -- The arrays of numbers that the exported calls answer with.
 use Prim.Native.Nat.{ℕ}
-use mathlib.Core.List.{List, [], _∷_}
+use mathlib.Core.List.{List, [], _∷_, _++_}
+use lib.ListN.{replicate}
+use Rattle.number.specs.Whole.{wide, long}
 use Rattle.model.specs.Verdict.{verdict}
+use Rattle.claim.specs.Claims.{claimOf}
+use Rattle.claim.specs.Instruction.{Range, Touched, nothing, one, two}
+use Rattle.list.specs.List as list
+use Rattle.list.specs.List.{Next, nextLine}
 use Rattle.checker.specs.Answer.{Numbers, numbers, told}
 
 -- refused, line, 0, accepted, instructions, oob, empty, row, constraint
@@ -12,3 +18,33 @@ checkList x =
 -- what `mxp_check` writes for these bytes
 abbrev pub checkOut : List ℕ → List ℕ
 checkOut l = checkList (numbers (told (verdict l)))
+
+-- ---- the next line of a list
+
+-- an offset or a length by its halves; and a range
+abbrev pub halves : ℕ → List ℕ
+halves v = long v .hi ∷ long v .lo ∷ []
+
+abbrev pub rangeList : Range → List ℕ
+rangeList r = halves (r .at) ++ halves (r .len)
+
+-- how many ranges are touched, and two ranges, of zeros where there is none
+abbrev pub touchedList : Touched → List ℕ
+touchedList nothing = 0 ∷ replicate 8 0
+touchedList (one a) = 1 ∷ (rangeList a ++ replicate 4 0)
+touchedList (two a b) = 2 ∷ (rangeList a ++ rangeList b)
+
+-- an end by its first byte and two halves
+abbrev pub endList : ℕ → List ℕ
+endList e = wide e .top ∷ wide e .hi ∷ wide e .lo ∷ []
+
+-- refused, line, stop, next, cn, op, ranges, range 1, range 2, end 1, end 2
+abbrev pub nextList : (line : ℕ) → Next → List ℕ
+nextList line list.end = replicate 21 0
+nextList line (list.one i next) =
+    0 ∷ 0 ∷ 0 ∷ next ∷ i .context .cn ∷ i .op ∷ (touchedList (i .touched) ++ (endList (claimOf i .end1) ++ endList (claimOf i .end2)))
+nextList line (list.refused n at) = n ∷ line ∷ at ∷ replicate 18 0
+
+-- what `mxp_next_line` writes for this text, place and line number
+abbrev pub nextOut : (text : List ℕ) → (at line : ℕ) → List ℕ
+nextOut text at line = nextList line (nextLine text at)

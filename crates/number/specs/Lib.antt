@@ -1,4 +1,6 @@
+pub mod Tests
 pub mod Num
+pub mod Digits
 pub mod Cells
 pub mod Sums
 pub mod Whole

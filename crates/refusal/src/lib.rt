@@ -1,12 +1,40 @@
 // Why a call refuses its input: document 01's number, and the line of the list where it has one. One function for each refusal.
 ghost use mathlib.Core.Path.{_≡_};
 ghost use Rattle.model.specs.Verdict.{badLength, tooManyRows};
-ghost use Rattle.refusal.specs.Refusals.{lineless};
+ghost use Rattle.refusal.specs.Refusals.{lineless, inLine, notOfForm, cnZero, notListed, unusedField};
 
 // Its number, and the line from 1; line 0 where it is of no line.
 pub struct Refusal {
     pub number: u64,
     pub line: u64,
+}
+
+// The line is not of the form.
+pub fn not_of_form(line: u64) -> Refusal
+    ensures { λ r. ⌜ r ≡ inLine notOfForm line ⌝ }
+{
+    Refusal { number: 3, line }
+}
+
+// The line's cn is 0.
+pub fn cn_zero(line: u64) -> Refusal
+    ensures { λ r. ⌜ r ≡ inLine cnZero line ⌝ }
+{
+    Refusal { number: 4, line }
+}
+
+// The line's opcode is not in the table.
+pub fn not_listed(line: u64) -> Refusal
+    ensures { λ r. ⌜ r ≡ inLine notListed line ⌝ }
+{
+    Refusal { number: 5, line }
+}
+
+// A field that the line's opcode has no use for is not 0.
+pub fn unused_field(line: u64) -> Refusal
+    ensures { λ r. ⌜ r ≡ inLine unusedField line ⌝ }
+{
+    Refusal { number: 6, line }
 }
 
 // The trace has length 0 or is not a multiple of a row.

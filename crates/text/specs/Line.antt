@@ -1,17 +1,11 @@
 -- The bytes of printed lines, and what it is to put bytes into a buffer.
-use Prim.Native.Char.{code}
 use Prim.Native.Nat.{ℕ, _+_, _≤_}
-use Prim.Native.String.{String, [] as none, _∷_ as _then_}
-use mathlib.Core.List.{List, [], _∷_, _++_}
+use mathlib.Core.List.{List, _++_}
 use mathlib.Core.Path.{_≡_}
 use lib.ListN.{length, take, drop}
 use lib.Seq.{sets}
+use Rattle.form.specs.Ascii.{ascii}
 use Rattle.text.specs.Decimal.{decimal}
-
--- the bytes of a text: the code of each character, all of them ASCII
-abbrev pub ascii : String → List ℕ
-ascii none = []
-ascii (c then s) = code c ∷ ascii s
 
 -- a name and then a number in decimal
 abbrev pub field : List ℕ → ℕ → List ℕ

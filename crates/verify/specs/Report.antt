@@ -6,10 +6,11 @@ use lib.ListN.{length}
 use Rattle.checker.specs.Answer.{Numbers, numbers, told}
 use Rattle.checker.specs.declared.Verdict.{Verdict}
 use Rattle.checker.specs.declared.Verdict.the-variants.{Accepted, Broken, Refused}
+use Rattle.form.specs.Ascii.{ascii}
 use Rattle.model.specs.Tests.{pick}
 use Rattle.model.specs.Verdict.{verdict, tooManyRows}
 use Rattle.refusal.specs.Refusals.{lineless}
-use Rattle.text.specs.Line.{ascii, field, refusedLine}
+use Rattle.text.specs.Line.{field, refusedLine}
 
 -- the lines `accepted=1 instructions= oob= empty=` and `accepted=0 row= constraint=`
 abbrev pub acceptedLine : Numbers → List ℕ

@@ -1,12 +1,18 @@
-//! The library under test: its call, and the nine numbers in which it answers.
+//! The library under test: its calls, and the numbers in which they answer.
 
-use reference::Verdict;
+use reference::list::{self, Range};
+use reference::{Verdict, Wide};
 
 /// Refused, line, 0, accepted, instructions, oob, empty, row, constraint; what is not meant is 0.
 pub type Answer = [u64; 9];
 
+/// Refused, line, stop, next, cn, op, ranges; at and len of range 1 and of range 2, each in two halves; end 1 and end 2,
+/// each as its top byte and two halves. What is not meant is 0.
+pub type LineAnswer = [u64; 21];
+
 unsafe extern "C" {
     fn mxp_check(trace: *const u8, trace_len: usize, out: *mut Answer);
+    fn mxp_next_line(list: *const u8, list_len: usize, at: usize, line: u64, out: *mut LineAnswer);
 }
 
 /// Calls the checker. The trace is lent as one that might change, so that a write into it is seen afterwards and not
@@ -14,6 +20,12 @@ unsafe extern "C" {
 pub fn check(trace: &mut [u8], out: &mut Answer) {
     // SAFETY: the pointer and the length are those of one slice, `out` is an answer's room, and both outlive the call.
     unsafe { mxp_check(trace.as_mut_ptr().cast_const(), trace.len(), out) }
+}
+
+/// Calls the list reader for the line that starts at a place. The list is lent as one that might change, as a trace is.
+pub fn next_line(list: &mut [u8], at: usize, line: u64, out: &mut LineAnswer) {
+    // SAFETY: the pointer and the length are those of one slice, `out` is an answer's room, and both outlive the call.
+    unsafe { mxp_next_line(list.as_mut_ptr().cast_const(), list.len(), at, line, out) }
 }
 
 /// A verdict as the library answers it.
@@ -25,4 +37,22 @@ pub fn answer(verdict: Verdict) -> Answer {
         }
         Verdict::Broken { row, constraint } => [0, 0, 0, 0, 0, 0, 0, row.into(), constraint.into()],
     }
+}
+
+/// An answer of the list reader as the library gives it.
+pub fn line_answer(answer: &list::Answer) -> LineAnswer {
+    let &list::Answer { refused, line, stop, next, cn, op, ranges, range1, range2, end1, end2 } = answer;
+    let head = [refused.into(), line, stop as u64, next as u64, cn.into(), op.into(), ranges.into()];
+    let parts = [&head[..], &halves_of(range1), &halves_of(range2), &parts_of(end1), &parts_of(end2)].concat();
+    parts.try_into().expect("there are 21 numbers")
+}
+
+fn halves_of(Range { at, len }: Range) -> [u64; 4] {
+    [(at >> 64) as u64, at as u64, (len >> 64) as u64, len as u64]
+}
+
+fn parts_of(end: Wide) -> [u64; 3] {
+    let [top, halves @ ..] = end.to_be_bytes();
+    let halves = u128::from_be_bytes(halves);
+    [top.into(), (halves >> 64) as u64, halves as u64]
 }

@@ -1,11 +1,13 @@
-//! `full`: compares the library with the reference on full-size traces, on the vectors and on random traces, then
-//! measures both. It ends with a message and another status than 0 at the first difference.
+//! `full`: compares the library with the reference on traces and on lists, at full size, on the vectors and at random,
+//! then measures both. It ends with a message and another status than 0 at the first difference.
 
 mod compare;
 mod damage;
 mod forgery;
 mod full_size;
 mod library;
+mod list;
+mod margins;
 mod options;
 mod random;
 mod speed;
@@ -32,7 +34,12 @@ fn main() -> ExitCode {
 
 fn run(options: &Options) -> Outcome<()> {
     println!("full size: {} traces as meant", full_size::compare_all()?);
-    println!("vectors: {} answers agree", vector_files::compare_all(&options.vectors)?);
+    println!("vectors: {} answers agree", vector_files::compare_all(&options.trace_vectors)?);
     println!("random: {}", trials::compare_all(options.traces, options.seed)?);
-    speed::measure_all()
+    println!("list vectors: {} lists as expected", list::vector_files::compare_all(&options.list_vectors)?);
+    println!("list sweeps: {} lists agree", list::sweeps::compare_all()?);
+    println!("full-size lists: {} lists agree", list::full_size::compare_all()?);
+    println!("random lists: {}", list::trials::compare_all(options.lists, options.seed)?);
+    speed::measure_all()?;
+    list::speed::measure_all()
 }

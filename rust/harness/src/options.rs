@@ -6,29 +6,38 @@ use crate::Outcome;
 
 /// How many random traces there are if nothing else is said.
 pub const DEFAULT_TRACES: u64 = 30_000;
+/// How many random lists there are if nothing else is said.
+pub const DEFAULT_LISTS: u64 = 100_000;
 
-const USAGE: &str = "usage: full VECTORS [--traces N] [--seed S]";
+const USAGE: &str = "usage: full TRACE_VECTORS LIST_VECTORS [--traces N] [--lists N] [--seed S]";
 
 /// What to compare.
 pub struct Options {
-    /// The folder of the vectors.
-    pub vectors: PathBuf,
+    /// The folder of the vectors that are traces.
+    pub trace_vectors: PathBuf,
+    /// The folder of the vectors that are lists.
+    pub list_vectors: PathBuf,
     /// How many random traces.
     pub traces: u64,
-    /// The seed of the first of them; the next has the next.
+    /// How many random lists.
+    pub lists: u64,
+    /// The seed of the first trace and of the first list; the next has the next.
     pub seed: u64,
 }
 
 impl Options {
     /// The options that the words of a command line say.
     pub fn read(mut words: impl Iterator<Item = String>) -> Outcome<Options> {
-        let vectors = PathBuf::from(words.next().ok_or(USAGE)?);
-        let mut options = Options { vectors, traces: DEFAULT_TRACES, seed: 1 };
+        let trace_vectors = PathBuf::from(words.next().ok_or(USAGE)?);
+        let list_vectors = PathBuf::from(words.next().ok_or(USAGE)?);
+        let mut options =
+            Options { trace_vectors, list_vectors, traces: DEFAULT_TRACES, lists: DEFAULT_LISTS, seed: 1 };
         while let Some(word) = words.next() {
             let number = words.next().and_then(|number| number.parse().ok());
             let number = number.ok_or_else(|| format!("{word} needs a number; {USAGE}"))?;
             match word.as_str() {
                 "--traces" => options.traces = number,
+                "--lists" => options.lists = number,
                 "--seed" => options.seed = number,
                 _ => return Err(format!("{word} is no option; {USAGE}")),
             }

@@ -9,9 +9,9 @@ use crate::Outcome;
 use crate::full_size::{all_contexts, empty, in_bounds_of, out_of_bounds};
 use crate::library::{self, Answer};
 
-/// A trace is checked again until so much time has gone, and the quickest time counts.
+/// A call is made again until so much time has gone, and the quickest time counts.
 const LONG_ENOUGH: Duration = Duration::from_millis(400);
-/// No full-size trace may take longer: a bound for sanity, not for speed.
+/// No full-size input may take longer: a bound for sanity, not for speed.
 const TOO_LONG: Duration = Duration::from_secs(10);
 
 /// Measures and prints.
@@ -30,17 +30,22 @@ fn measure(name: &str, draft: &Draft) -> Outcome<()> {
         black_box(reference::check(black_box(&trace)));
     });
     let library = quickest(|| library::check(black_box(&mut trace), &mut out));
+    report(name, library, reference, trace.len() / ROW_BYTES, "row")
+}
+
+/// Prints what a full-size input took both of them, by the units that it has.
+pub fn report(name: &str, library: Duration, reference: Duration, units: usize, unit: &str) -> Outcome<()> {
     if library > TOO_LONG {
-        return Err(format!("{name}: the library takes {library:?} for a full-size trace"));
+        return Err(format!("{name}: the library takes {library:?} at full size"));
     }
-    let rows = (trace.len() / ROW_BYTES) as f64;
-    let [library, reference] = [library, reference].map(|time| time.as_nanos() as f64 / rows);
+    let [library, reference] = [library, reference].map(|time| time.as_nanos() as f64 / units as f64);
     let ratio = library / reference;
-    println!("speed: {name}: {library:.1} ns a row, reference {reference:.1} ns a row, ratio {ratio:.2}");
+    println!("speed: {name}: {library:.1} ns a {unit}, reference {reference:.1} ns a {unit}, ratio {ratio:.2}");
     Ok(())
 }
 
-fn quickest(mut call: impl FnMut()) -> Duration {
+/// The least time that a call takes.
+pub fn quickest(mut call: impl FnMut()) -> Duration {
     let start = Instant::now();
     let mut quickest = Duration::MAX;
     loop {

@@ -1,11 +1,13 @@
-//! Traces of memory expansion, judged and made as document 01 says, apart from the stage's own code: a second opinion
-//! to compare that code with, and the source of the test vectors.
+//! Traces of memory expansion, judged and made as document 01 says, and lists of instructions read, apart from the
+//! stage's own code: a second opinion to compare that code with, and the source of the test vectors.
 
 #![forbid(unsafe_code)]
 
 pub mod check;
 pub mod cycle;
 pub mod draft;
+pub mod list;
+pub mod list_vectors;
 pub mod make;
 pub mod program;
 pub mod row;

@@ -1,5 +1,7 @@
 //! A whole number of 17 bytes, the width of an end: more than a `u128` holds.
 
+use std::fmt;
+
 /// A number below 2^136, as its top byte and the 16 bytes under it. The order of the fields makes the derived
 /// comparison that of the numbers.
 #[derive(Clone, Copy, Debug, Default, PartialEq, Eq, PartialOrd, Ord, Hash)]
@@ -61,6 +63,13 @@ impl Wide {
     pub fn checked_append(self, byte: u8) -> Option<Wide> {
         let [top, ..] = self.low.to_be_bytes();
         (self.top == 0).then(|| Wide { top, low: self.low << 8 | u128::from(byte) })
+    }
+}
+
+/// The number in hex, without leading zeros.
+impl fmt::Display for Wide {
+    fn fmt(&self, out: &mut fmt::Formatter<'_>) -> fmt::Result {
+        if self.top == 0 { write!(out, "{:x}", self.low) } else { write!(out, "{:x}{:032x}", self.top, self.low) }
     }
 }
 
@@ -139,6 +148,15 @@ mod tests {
         bytes[16] = 3;
         assert_eq!(number.to_be_bytes(), bytes);
         assert_eq!(Wide::from_be_bytes(bytes), number);
+    }
+
+    #[test]
+    fn hex_digits_have_no_leading_zeros() {
+        assert_eq!(Wide::ZERO.to_string(), "0");
+        assert_eq!(Wide::from(0x2a0u32).to_string(), "2a0");
+        assert_eq!(Wide::from(u128::MAX).to_string(), "f".repeat(32));
+        assert_eq!(Wide::power_of_two(129).to_string(), format!("2{}", "0".repeat(32)));
+        assert_eq!(Wide::MAX.to_string(), "f".repeat(34));
     }
 
     #[test]

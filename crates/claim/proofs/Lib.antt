@@ -1,0 +1,3 @@
+pub mod TableLaws
+pub mod ClaimLaws
+pub mod PaperLaws

@@ -1,0 +1,5 @@
+pub mod Opcodes
+pub mod Instruction
+pub mod Claims
+pub mod Paper
+pub mod Told

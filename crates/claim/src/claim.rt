@@ -1,0 +1,56 @@
+// The claim of an instruction: its context and the two ends of what it touches.
+ghost use mathlib.Core.Path.{_≡_};
+ghost use Rattle.number.specs.Whole.{wide};
+ghost use Rattle.claim.specs.Claims.{endOf, claimOf};
+ghost use Rattle.claim.specs.Told.{plainRange, plainInstruction, toldClaim};
+use crate::instruction::Instruction;
+use crate::instruction::Range;
+use crate::instruction::Touched;
+use number::long::is_zero;
+use number::long::sum;
+use number::wide::Wide;
+use number::wide::small;
+use state::Context;
+
+// A context and two ends.
+pub struct Claim {
+    pub context: Context,
+    pub end1: Wide,
+    pub end2: Wide,
+}
+
+// The end of a range: 0 where its length is 0, else its offset plus its length.
+fn end_of(r: Range) -> Wide
+    ensures { λ e. ⌜ e ≡ wide (endOf (plainRange r)) ⌝ }
+{
+    if is_zero(r.len) {
+        small(0)
+    } else {
+        sum(r.at, r.len)
+    }
+}
+
+// The claim of an instruction.
+pub fn claim_of(i: Instruction) -> Claim
+    ensures { λ r. ⌜ r ≡ toldClaim (claimOf (plainInstruction i)) ⌝ }
+{
+    let context = i.context;
+    let touched = i.touched;
+    match touched {
+        Touched::Nothing => Claim {
+            context,
+            end1: small(0),
+            end2: small(0),
+        },
+        Touched::One(a) => Claim {
+            context,
+            end1: end_of(a),
+            end2: small(0),
+        },
+        Touched::Two(a, b) => Claim {
+            context,
+            end1: end_of(a),
+            end2: end_of(b),
+        },
+    }
+}

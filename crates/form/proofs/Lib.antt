@@ -1,0 +1,6 @@
+pub mod Examples
+pub mod HexLaws
+pub mod TextLaws
+pub mod ReadLaws
+pub mod FormLaws
+pub mod StepLaws

@@ -1,0 +1,102 @@
+-- Laws of the readers, one character at a time, as the code reads them.
+use Prim.Native.Nat.{ℕ, zero, suc, _+_, _*_, _^_, _≤_, _<_}
+use mathlib.Core.Bool.{true, false, _&&_}
+use mathlib.Core.List.{List, [], _∷_}
+use mathlib.Core.Logic.{⊎-elim}
+use mathlib.Core.Path.{_≡_, refl}
+use native.Mathlib.Nat.{pow-suc, pow-le-pow-right}
+use native.Mathlib.Omega.{arith}
+use borrow.Author.Tests.{eq-eqb, ne-eqb, leb-true, lt-ltb, le-ltb}
+use lib.Dec.{leb}
+use lib.ListN.{length, getD, drop, List·getD-eq-default}
+use lib.Seq.{drop-cons}
+use Rattle.number.specs.Whole.{whole}
+use Rattle.number.specs.declared.long.Long.{Long}
+use Rattle.number.proofs.TestLaws.{both, either}
+use Rattle.form.specs.Hex.{code-0, code-9, code-a, code-f, isDigit, digitOf}
+use Rattle.form.specs.Read.{got, stop, noChar, charAt, readText, Run, run, readDigits}
+
+-- ---- characters
+
+-- inside a text the character is the text's, whatever stands for none
+pub char-in : (t : List ℕ) (p : ℕ) → p < length t → charAt t p ≡ getD t p 0
+char-in [] p h = absurd (omega arith)
+char-in (c ∷ t) zero h = refl
+char-in (c ∷ t) (suc p) h = char-in t p (omega arith)
+
+-- past its end there is none, and none is a digit
+pub char-past : (t : List ℕ) (p : ℕ) → length t ≤ p → charAt t p ≡ noChar
+char-past t p h = List·getD-eq-default t noChar h
+
+pub no-digit-past : (t : List ℕ) (p : ℕ) → length t ≤ p → isDigit (charAt t p) ≡ false
+unfolding isDigit
+no-digit-past t p h = rw (char-past t p h)
+
+-- what a digit is: `0` to `9`, or `a` to `f`
+pub digit-least : (c : ℕ) → isDigit c ≡ true → code-0 ≤ c
+unfolding isDigit
+digit-least c e =
+    ⊎-elim (λ d. leb-true code-0 c (both (leb code-0 c) (leb c code-9) d .0))
+    (λ d. omega (arith, leb-true code-a c (both (leb code-a c) (leb c code-f) d .0)))
+    (either (leb code-0 c && leb c code-9) (leb code-a c && leb c code-f) e)
+
+pub letter-least : (c : ℕ) → isDigit c ≡ true → code-9 < c → (code-a ≤ c) × (c ≤ code-f)
+unfolding isDigit
+letter-least c e h =
+    ⊎-elim (λ d. absurd (omega (arith, leb-true c code-9 (both (leb code-0 c) (leb c code-9) d .1))))
+    (λ d.
+    let p = both (leb code-a c) (leb c code-f) d in
+    (leb-true code-a c (p .0), leb-true c code-f (p .1)))
+    (either (leb code-0 c && leb c code-9) (leb code-a c && leb c code-f) e)
+
+-- ---- given characters
+
+-- the character at place i of the name agrees: what is left of the name is read at the next place
+pub text-agrees : (name t : List ℕ) (i p : ℕ) → i < length name → charAt t p ≡ getD name i 0
+    → readText (drop i name) t p ≡ readText (drop (suc i) name) t (suc p)
+unfolding readText
+text-agrees name t i p h e = rw (drop-cons name i 0 h, eq-eqb (charAt t p) (getD name i 0) e)
+
+-- it does not: there reading stops
+pub text-differs : (name t : List ℕ) (i p : ℕ) → i < length name → (charAt t p ≡ getD name i 0 → ⊥) → readText (drop i name) t p ≡ stop p
+unfolding readText
+text-differs name t i p h e = rw (drop-cons name i 0 h, ne-eqb (charAt t p) (getD name i 0) e)
+
+-- ---- digits
+
+-- a digit more
+pub run-next : (n : ℕ) (t : List ℕ) (v p : ℕ) → isDigit (charAt t p) ≡ true
+    → run (suc n) t v p ≡ run n t (v * 16 + digitOf (charAt t p)) (suc p)
+unfolding run
+run-next n t v p e = rw e
+
+-- no digit: the run ends, however many more it may have
+pub run-stops : (n : ℕ) (t : List ℕ) (v p : ℕ) → isDigit (charAt t p) ≡ false → run n t v p ≡ record { value = v; next = p }
+unfolding run
+run-stops zero t v p e = refl
+run-stops (suc n) t v p e = rw e
+
+-- too few digits: it stops where the run ends
+pub too-few : (least most : ℕ) (t : List ℕ) (p : ℕ) (r : Run) → r ≡ run most t 0 p → r .next < p + least
+    → stop (r .next) ≡ readDigits least most t p
+unfolding readDigits
+too-few least most t p r e h = rw (← e, lt-ltb (r .next) (p + least) h)
+
+-- enough of them: the number
+pub enough : (least most : ℕ) (t : List ℕ) (p : ℕ) (r : Run) → r ≡ run most t 0 p → p + least ≤ r .next
+    → got (r .value) (r .next) ≡ readDigits least most t p
+unfolding readDigits
+enough least most t p r e h = rw (← e, le-ltb (r .next) (p + least) h)
+
+-- ---- two halves
+
+-- a number of at most 31 digits has room for one more
+pub digit-room : (x : Long) (k : ℕ) → whole x < 16 ^ k → k < 32 → x .hi < 2 ^ 60
+unfolding whole
+digit-room x k h l =
+    let m : 16 ^ k ≤ 16 ^ 31 = pow-le-pow-right {n = 16} (omega arith) {i = k} {j = 31} (omega arith) in
+    omega arith
+
+-- and one more digit makes it one of one digit more
+pub digit-less : (v d k : ℕ) → v < 16 ^ k → d < 16 → v * 16 + d < 16 ^ suc k
+digit-less v d k h l = rw pow-suc (omega arith)

@@ -1,0 +1,5 @@
+pub mod Ascii
+pub mod Hex
+pub mod Read
+pub mod Form
+pub mod Plain

@@ -1,0 +1,27 @@
+-- What the readers' answers say.
+use Prim.Native.Nat.{ℕ}
+use Rattle.number.specs.Whole.{whole}
+use Rattle.form.specs.Read.{Read, got, stop, Run}
+use Rattle.form.specs.declared.Digits.{Digits}
+use Rattle.form.specs.declared.Matched.{Matched}
+use Rattle.form.specs.declared.Matched.the-variants as m
+use Rattle.form.specs.declared.Number.{Number}
+use Rattle.form.specs.declared.Number.the-variants as n
+
+-- the most digits of a number below 2^128
+abbrev pub mostDigits : ℕ
+mostDigits = 32
+
+-- given characters
+abbrev pub matched : Matched → Read Unit
+matched (m.To p) = got tt p
+matched (m.Stop p) = stop p
+
+-- a run of digits
+abbrev pub digitRun : Digits → Run
+digitRun d = record { value = whole (d .value); next = d .next }
+
+-- a number
+abbrev pub number : Number → Read ℕ
+number (n.Got x p) = got (whole x) p
+number (n.Stop p) = stop p

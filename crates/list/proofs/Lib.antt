@@ -1,0 +1,5 @@
+pub mod Examples
+pub mod PartLaws
+pub mod LineLaws
+pub mod ListLaws
+pub mod OneAnswer
