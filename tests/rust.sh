@@ -20,8 +20,8 @@ passed=$(($(sed -n 's/^test result: ok\. \([0-9]*\) passed.*/\1/p' "$room/log" |
 echo "reference: $passed tests passed"
 
 for kind in verify list; do
-    quietly "$root/tools/${kind}_vectors" "$room/$kind"
-    diff -r "$room/$kind" "$root/data/$kind" >&2 || fail "data/$kind differs from what the reference makes (tools/${kind}_vectors)"
+    quietly "$root/tools/vectors" "$kind" "$room/$kind"
+    diff -r "$room/$kind" "$root/data/$kind" >&2 || fail "data/$kind differs from what the reference makes (tools/vectors $kind)"
     echo "data/$kind: $(cat "$room/log") as the reference makes them"
 done
 

@@ -14,9 +14,9 @@ use lib.Seq.{drop-cons}
 use Rattle.number.specs.Tables.{every}
 use Rattle.number.specs.Tests.{pick}
 use Rattle.number.proofs.TableLaws.{every-at, and-left, and-right}
-use Rattle.number.proofs.TestLaws.{either}
+use Rattle.number.proofs.TestLaws.{either, is-true}
 use Rattle.model.specs.Columns.{table}
-use Rattle.model.proofs.TableOf.{length-table, getD-table}
+use Rattle.model.proofs.TableOf.{below, below-at}
 use Rattle.claim.specs.Opcodes.{unlisted, Listed, listed, among, categoryBy, categoryOf}
 use Rattle.claim.specs.declared.opcode.Entry.{Entry}
 
@@ -24,13 +24,7 @@ use Rattle.claim.specs.declared.opcode.Entry.{Entry}
 
 -- the bytes
 abbrev pub bytes : List ℕ
-bytes = table 256 (λ k. k)
-
--- a test that the checker computes for each byte passes at each
-at-byte : (f : ℕ → Bool) → T (every f bytes) → (k : ℕ) → k < 256 → T (f k)
-at-byte f t k h =
-    let l : k < length bytes = rw (length-table 256 (λ j. j)) h in
-    rw (getD-table 256 (λ j. j) k 0 h) at (every-at f bytes t k 0 l)
+bytes = below 256
 
 -- a number is a byte
 abbrev pub isByte : ℕ → Bool
@@ -61,14 +55,10 @@ pub exactly-listed : (ops : List ℕ) → T (every isByte ops) → T (every (fit
     → (among op ops ≡ true) ↔ (categoryOf op ≢ unlisted)
 unfolding categoryOf
 exactly-listed ops b t op =
-    (λ e. there e (at-byte (fitting ops) t op (among-byte op ops b e)), λ n. back n (at-byte (fitting ops) t op (category-byte op listed tt n)))
+    (λ e. there e (below-at (fitting ops) 256 t op (among-byte op ops b e)), λ n. back n (below-at (fitting ops) 256 t op (category-byte op listed tt n)))
   where
     there : among op ops ≡ true → T (fitting ops op) → categoryOf op ≢ unlisted
     there e u z = rw (eq-eqb (categoryOf op) unlisted z, e) at u
-
-    is-true : (a : Bool) → T a → a ≡ true
-    is-true true u = refl
-    is-true false u = absurd u
 
     back : categoryOf op ≢ unlisted → T (fitting ops op) → among op ops ≡ true
     back n u = is-true (among op ops) (rw (ne-eqb (categoryOf op) unlisted n) at u)
@@ -114,7 +104,7 @@ pub right : (es : List Entry) → T (every (finds es) bytes) → T (every isByte
     → T (rises (opcodes es)) → Right es
 right es f b t n r =
     record {
-      rule = λ op h. eqb→eq (find op es) (categoryOf op) (at-byte (finds es) f op h);
+      rule = λ op h. eqb→eq (find op es) (categoryOf op) (below-at (finds es) 256 f op h);
       exact = exactly-listed (opcodes es) b t;
       entries = n;
       rising = rising-at (opcodes es) r;

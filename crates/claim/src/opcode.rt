@@ -3,17 +3,17 @@ ghost use mathlib.Core.Path.{_≡_};
 ghost use Rattle.claim.specs.Opcodes.{categoryOf};
 
 // What an opcode touches, as a number for the table; 0 is for one that is not in it.
-pub const UNLISTED: u8 = 0;
+pub(crate) const UNLISTED: u8 = 0;
 
-pub const NOTHING: u8 = 1;
+pub(crate) const NOTHING: u8 = 1;
 
-pub const WORD: u8 = 2;
+pub(crate) const WORD: u8 = 2;
 
-pub const BYTE: u8 = 3;
+pub(crate) const BYTE: u8 = 3;
 
-pub const RANGE: u8 = 4;
+pub(crate) const RANGE: u8 = 4;
 
-pub const TWO_RANGES: u8 = 5;
+pub(crate) const TWO_RANGES: u8 = 5;
 
 // An opcode and its category.
 struct Entry {

@@ -2,7 +2,7 @@
 use mathlib.Core.List.{List, [], _∷_}
 use mathlib.Core.Path.{_≡_, refl}
 use Rattle.form.specs.Ascii.{ascii}
-use Rattle.form.specs.Form.{Field, number, digits, readField, readForm}
+use Rattle.form.specs.Form.{Field, upTo, exactly, readField, readForm}
 use Rattle.form.specs.Hex.{isDigit, digitOf}
 use Rattle.form.specs.Read.{got, stop, readText, run, readDigits, readNumber}
 
@@ -26,7 +26,7 @@ digits-examples = (refl, refl, refl)
 
 -- a form of a number of at most four digits and one of exactly two
 abbrev example : List Field
-example = record { name = ascii "cn="; kind = number 4 } ∷ record { name = ascii " w="; kind = digits 2 } ∷ []
+example = record { name = ascii "cn="; kind = upTo 4 } ∷ record { name = ascii " w="; kind = exactly 2 } ∷ []
 
 -- a text of the form is read; a second digit after a leading zero, a letter that is no digit and the end of the text each stop the reader
 pub form-examples : (readForm example (ascii ";") (ascii "cn=1f w=05;") 0 ≡ got (31 ∷ 5 ∷ []) 11)

@@ -12,7 +12,7 @@ use lib.ListN.{length, take, length-append}
 use lib.Seq.{length-take-le, take-all, take-append-le, take-append-add}
 use Rattle.form.specs.Hex.{isDigit, hex, hexIn}
 use Rattle.form.specs.Read.{got, stop, andThen, charAt, allChars, readText}
-use Rattle.form.specs.Form.{Kind, number, digits, Field, printNumber, room, printForm, Room, readKind, readField, readForm, Stands, NoDigitFirst, firstText, Separate, AllChars, Begins}
+use Rattle.form.specs.Form.{Kind, upTo, exactly, Field, printNumber, room, printForm, Room, readKind, readField, readForm, Stands, NoDigitFirst, firstText, Separate, AllChars, Begins}
 use Rattle.form.proofs.HexLaws.{digits-are-chars, hex-digits, hex-in-digits}
 use Rattle.form.proofs.TextLaws.{chars-append, chars-take, stands-split, stands-join, stands-inside}
 use Rattle.form.proofs.ReadLaws.{reached, then-got, then-stop, made-stop, made-reached, then-on, text-reads, text-read, text-stops, text-far, kind-reads, kind-read, kind-stops, kind-far}
@@ -63,8 +63,8 @@ fieldText f v = f .name ++ printNumber (f .kind) v
 
 -- 0 has room
 room-some : (k : Kind) → 0 < room k
-room-some (number most) = one-le-pow most 16 (omega arith)
-room-some (digits w) = one-le-pow w 16 (omega arith)
+room-some (upTo most) = one-le-pow most 16 (omega arith)
+room-some (exactly w) = one-le-pow w 16 (omega arith)
 
 module _ (t : List ℕ) where
   -- it is read where it stands and no digit follows
@@ -143,8 +143,8 @@ zeros-room (f ∷ fs) = (room-some (f .kind), zeros-room fs)
 
 -- a number holds characters only, and so does a field whose name does
 number-chars : (k : Kind) (v : ℕ) → allChars (printNumber k v) ≡ true
-number-chars (number most) v = digits-are-chars (hex v) (hex-digits v)
-number-chars (digits w) v = digits-are-chars (hexIn w v) (hex-in-digits w v)
+number-chars (upTo most) v = digits-are-chars (hex v) (hex-digits v)
+number-chars (exactly w) v = digits-are-chars (hexIn w v) (hex-in-digits w v)
 
 field-chars : (f : Field) (v : ℕ) → allChars (f .name) ≡ true → allChars (fieldText f v) ≡ true
 field-chars f v h = chars-append (f .name) (printNumber (f .kind) v) h (number-chars (f .kind) v)

@@ -15,7 +15,7 @@ use Rattle.number.specs.Tests.{pick}
 use Rattle.number.proofs.DigitLaws.{below-append, spell-lt, spell-digits, digits-below, length-digits-pos, length-digits-in, spell-digits-in, digits-in-below}
 use Rattle.form.specs.Hex.{code-0, digitCode, isDigit, digitOf, hex, hexIn}
 use Rattle.form.specs.Read.{Read, got, stop, andThen, noChar, charAt, readText, Run, run, readDigits, readNumber}
-use Rattle.form.specs.Form.{Kind, number, digits as exactly, printNumber, room, readKind, Stands, Begins}
+use Rattle.form.specs.Form.{Kind, upTo, exactly, printNumber, room, readKind, Stands, Begins}
 use Rattle.form.proofs.HexLaws.{base, code-is-digit, digit-of-code, digit-of-lt, code-of-digit, hex-small, hex-spell, length-hex-pos, length-hex, hex-first, hex-in-spell, length-hex-in}
 use Rattle.form.proofs.TextLaws.{stands-first}
 
@@ -101,12 +101,12 @@ module _ (t : List ℕ) where
   -- ---- a run of digits
 
   -- a digit is read
-  run-on : (n v p : ℕ) → isDigit (charAt t p) ≡ true → run (suc n) t v p ≡ run n t (v * 16 + digitOf (charAt t p)) (suc p)
+  pub run-on : (n v p : ℕ) → isDigit (charAt t p) ≡ true → run (suc n) t v p ≡ run n t (v * 16 + digitOf (charAt t p)) (suc p)
   unfolding run
   run-on n v p e = rw e
 
   -- and the run ends where there is none
-  run-ends : (n v p : ℕ) → isDigit (charAt t p) ≡ false → run n t v p ≡ record { value = v; next = p }
+  pub run-ends : (n v p : ℕ) → isDigit (charAt t p) ≡ false → run n t v p ≡ record { value = v; next = p }
   unfolding run
   run-ends zero v p e = refl
   run-ends (suc n) v p e = rw e
@@ -233,12 +233,6 @@ module _ (t : List ℕ) where
       omega
       (arith, spell-lt 16 0 ds 0 (omega (arith, pow-zero 16)) b, pow-le-pow-right {n = 16} (omega arith) {i = 0 + length ds} {j = most} (omega arith))
 
-  -- so the number that is read has
-  pub digits-bound : (least most p : ℕ) {v q : ℕ} → readDigits least most t p ≡ got v q → v < 16 ^ most
-  digits-bound least most p e =
-      let r = run-reads most 0 p in
-      rw (digits-read least most p e .1 ∙ r .value) (digits-room (r .read) most (r .below) (r .few))
-
   -- ---- a number without leading zero
 
   -- only 0 has room in no digits
@@ -307,10 +301,6 @@ module _ (t : List ℕ) where
           (omega (arith, one-le-pow most 16 (omega arith)), r .1, r .2)
       by false i e = number-written most p e (λ z. absurd (eqb-false (charAt t p) code-0 i z))
 
-  -- and it has room
-  pub number-bound : (most p : ℕ) {v q : ℕ} → readNumber most t p ≡ got v q → v < 16 ^ most
-  number-bound most p e = number-read most p e .0
-
   -- the reader goes as far as any number of the kind begins there
   number-far : (v most p m : ℕ) → v < 16 ^ most → m ≤ length (hex v) → Stands t p (take m (hex v)) → p + m ≤ reached (readNumber most t p)
   unfolding readNumber hex
@@ -324,7 +314,7 @@ module _ (t : List ℕ) where
   pub kind-reads : (k : Kind) (v p : ℕ) → v < room k → Stands t p (printNumber k v) → isDigit (charAt t (p + length (printNumber k v))) ≡ false
       → readKind k t p ≡ got v (p + length (printNumber k v))
   unfolding hexIn run
-  kind-reads (number most) v p h st e = number-reads v most p h st e
+  kind-reads (upTo most) v p h st e = number-reads v most p h st e
   kind-reads (exactly w) v p h st e =
       let ds : List ℕ = digitsIn 16 w v in
       let many : length ds ≡ w = length-digits-in 16 base w v in
@@ -334,7 +324,7 @@ module _ (t : List ℕ) where
 
   -- it stands where it is read, and has room
   pub kind-read : (k : Kind) (p : ℕ) {v q : ℕ} → readKind k t p ≡ got v q → (v < room k) × Stands t p (printNumber k v) × (q ≡ p + length (printNumber k v))
-  kind-read (number most) p e = number-read most p e
+  kind-read (upTo most) p e = number-read most p e
   kind-read (exactly w) p {v} {q} e =
       let r = run-reads w 0 p in
       let a = digits-read w w p e in
@@ -347,7 +337,7 @@ module _ (t : List ℕ) where
   -- where the reader stops it has read the beginning of a number of the kind: of 0, or of the digits that it read and zeros
   pub kind-stops : (k : Kind) (p : ℕ) {q : ℕ} → readKind k t p ≡ stop q → (v : ℕ) × (v < room k) × Begins t p q (printNumber k v)
   unfolding readNumber
-  kind-stops (number most) p {q} e =
+  kind-stops (upTo most) p {q} e =
       let n : ℕ = pick (eqb (charAt t p) code-0) 1 most in
       let a = digits-stop 1 n p e in (
         0,
@@ -382,6 +372,6 @@ module _ (t : List ℕ) where
   pub kind-far : (k : Kind) (v p m : ℕ) → v < room k → m ≤ length (printNumber k v) → Stands t p (take m (printNumber k v))
       → p + m ≤ reached (readKind k t p)
   unfolding hexIn
-  kind-far (number most) v p m h l st = number-far v most p m h l st
+  kind-far (upTo most) v p m h l st = number-far v most p m h l st
   kind-far (exactly w) v p m h l st =
       rw (digits-reached w w p) (run-far (digitsIn 16 w v) m w 0 p (digits-in-below 16 base w v) (rw length-map at l) (omega (arith, length-hex-in w v)) st)

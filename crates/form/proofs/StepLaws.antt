@@ -3,7 +3,7 @@ use Prim.Native.Nat.{ℕ, zero, suc, _+_, _*_, _^_, _≤_, _<_}
 use mathlib.Core.Bool.{true, false, _&&_}
 use mathlib.Core.List.{List, [], _∷_}
 use mathlib.Core.Logic.{⊎-elim}
-use mathlib.Core.Path.{_≡_, refl}
+use mathlib.Core.Path.{_≡_, refl, sym, _∙_, ap}
 use native.Mathlib.Nat.{pow-suc, pow-le-pow-right}
 use native.Mathlib.Omega.{arith}
 use borrow.Author.Tests.{eq-eqb, ne-eqb, leb-true, lt-ltb, le-ltb}
@@ -13,7 +13,7 @@ use lib.Seq.{drop-cons}
 use Rattle.number.specs.Whole.{whole}
 use Rattle.number.specs.declared.long.Long.{Long}
 use Rattle.number.proofs.TestLaws.{both, either}
-use Rattle.form.specs.Hex.{code-0, code-9, code-a, code-f, isDigit, digitOf}
+use Rattle.form.specs.Hex.{code-0, code-9, code-a, code-f, isDigit}
 use Rattle.form.specs.Read.{got, stop, noChar, charAt, readText, Run, run, readDigits}
 
 -- ---- characters
@@ -64,18 +64,6 @@ text-differs name t i p h e = rw (drop-cons name i 0 h, ne-eqb (charAt t p) (get
 
 -- ---- digits
 
--- a digit more
-pub run-next : (n : ℕ) (t : List ℕ) (v p : ℕ) → isDigit (charAt t p) ≡ true
-    → run (suc n) t v p ≡ run n t (v * 16 + digitOf (charAt t p)) (suc p)
-unfolding run
-run-next n t v p e = rw e
-
--- no digit: the run ends, however many more it may have
-pub run-stops : (n : ℕ) (t : List ℕ) (v p : ℕ) → isDigit (charAt t p) ≡ false → run n t v p ≡ record { value = v; next = p }
-unfolding run
-run-stops zero t v p e = refl
-run-stops (suc n) t v p e = rw e
-
 -- too few digits: it stops where the run ends
 pub too-few : (least most : ℕ) (t : List ℕ) (p : ℕ) (r : Run) → r ≡ run most t 0 p → r .next < p + least
     → stop (r .next) ≡ readDigits least most t p
@@ -100,3 +88,9 @@ digit-room x k h l =
 -- and one more digit makes it one of one digit more
 pub digit-less : (v d k : ℕ) → v < 16 ^ k → d < 16 → v * 16 + d < 16 ^ suc k
 digit-less v d k h l = rw pow-suc (omega arith)
+
+-- ---- calls
+
+-- what a call is known to have answered, as its contract tells it
+pub known : {A B : Type 0} (tells : A → B) {r w : A} {x : B} → r ≡ w → tells r ≡ x → x ≡ tells w
+known tells e h = sym h ∙ ap tells e

@@ -10,9 +10,9 @@ use Rattle.form.specs.Read.{Read, got, andThen, charAt, allChars, readTe
 -- how a number is written
 pub data Kind : Type 0 where
   -- in one to so many digits, without leading zero, zero as `0`
-  number : ℕ → Kind
+  upTo : ℕ → Kind
   -- in exactly so many digits
-  digits : ℕ → Kind
+  exactly : ℕ → Kind
 
 -- a name, and how the number after it is written
 pub record Field : Type 0 where
@@ -23,12 +23,12 @@ pub record Field : Type 0 where
 
 -- a number of a kind, and a number that the kind has room for
 abbrev pub printNumber : Kind → ℕ → List ℕ
-printNumber (number most) v = hex v
-printNumber (digits w) v = hexIn w v
+printNumber (upTo most) v = hex v
+printNumber (exactly w) v = hexIn w v
 
 abbrev pub room : Kind → ℕ
-room (number most) = 16 ^ most
-room (digits w) = 16 ^ w
+room (upTo most) = 16 ^ most
+room (exactly w) = 16 ^ w
 
 -- fields with their values, then what closes them; a value that is missing is 0, one too many is left out
 unfoldable pub printForm : List Field → (close : List ℕ) → List ℕ → List ℕ
@@ -46,8 +46,8 @@ Room (f ∷ fs) (v ∷ vs) = (v < room (f .kind)) × Room fs vs
 -- ---- reading
 
 abbrev pub readKind : Kind → (t : List ℕ) → (p : ℕ) → Read ℕ
-readKind (number most) t p = readNumber most t p
-readKind (digits w) t p = readDigits w w t p
+readKind (upTo most) t p = readNumber most t p
+readKind (exactly w) t p = readDigits w w t p
 
 -- a name and its number
 unfoldable pub readField : Field → (t : List ℕ) → (p : ℕ) → Read ℕ

@@ -6,11 +6,20 @@ ghost use Prim.Native.Nat.{_≤_, _<_};
 ghost use lib.Dec.{eqb};
 ghost use Rattle.number.specs.Tests.{pick};
 ghost use Rattle.form.specs.Hex.{code-0, isDigit, digitOf};
-ghost use Rattle.form.specs.Plain.{mostDigits, matched, digitRun, number};
+ghost use Rattle.form.specs.Form.{readKind, readField};
+ghost use Rattle.form.specs.Plain.{mostDigits, digitsOf, plainKind, fieldOf, matched, digitRun, number};
 ghost use Rattle.form.specs.Read.{charAt, readText, run, readDigits, readNumber};
 use number::long::Long;
 use number::long::push_digit;
 use number::long::small;
+
+// How a number is written.
+pub enum Kind {
+    // In one to so many digits, without leading zero, zero as `0`.
+    UpTo(usize),
+    // In exactly so many digits.
+    Exactly(usize),
+}
 
 // Where given characters end, or the place of the first that differs.
 pub enum Matched {
@@ -89,7 +98,7 @@ fn run_digits(t: &[u8], p: usize, most: usize) -> Digits
 }
 
 // A number in at least so many digits and at most so many, from p on.
-pub fn read_digits(t: &[u8], p: usize, least: usize, most: usize) -> Number
+fn read_digits(t: &[u8], p: usize, least: usize, most: usize) -> Number
     requires { ⌜ most ≤ mostDigits ⌝ }
     ensures { λ r. ⌜ number r ≡ readDigits least most (now (t .entry)) p ⌝ }
 {
@@ -117,9 +126,32 @@ fn digits_allowed(t: &[u8], p: usize, most: usize) -> usize
 }
 
 // A number in one to so many digits, without leading zero, zero as `0`, from p on.
-pub fn read_number(t: &[u8], p: usize, most: usize) -> Number
+fn read_number(t: &[u8], p: usize, most: usize) -> Number
     requires { ⌜ most ≤ mostDigits ⌝ }
     ensures { λ r. ⌜ number r ≡ readNumber most (now (t .entry)) p ⌝ }
 {
     read_digits(t, p, 1, digits_allowed(t, p, most))
+}
+
+// A number of the kind, from p on.
+fn read_kind(t: &[u8], p: usize, kind: Kind) -> Number
+    requires { ⌜ digitsOf kind ≤ mostDigits ⌝ }
+    ensures { λ r. ⌜ number r ≡ readKind (plainKind kind) (now (t .entry)) p ⌝ }
+{
+    match kind {
+        Kind::UpTo(most) => read_number(t, p, most),
+        Kind::Exactly(digits) => read_digits(t, p, digits, digits),
+    }
+}
+
+// A name, and then a number of the kind, from p on.
+pub fn read_field(t: &[u8], p: usize, name: &[u8], kind: Kind) -> Number
+    requires { ⌜ digitsOf kind ≤ mostDigits ⌝ }
+    ensures { λ r. ⌜ number r ≡ readField (fieldOf (now (name .entry)) kind) (now (t .entry)) p ⌝ }
+{
+    let matched = read_text(t, p, name);
+    match matched {
+        Matched::Stop(q) => Number::Stop(q),
+        Matched::To(q) => read_kind(t, q, kind),
+    }
 }

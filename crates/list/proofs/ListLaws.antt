@@ -2,7 +2,7 @@
 -- lines of some fields, with nothing else in it.
 use Prim.Native.Nat.{ℕ, zero, suc, _+_, _-_, _≤_, _<_}
 use mathlib.Core.Bool.{Bool, true, false}
-use mathlib.Core.List.{List, [], _∷_, _++_}
+use mathlib.Core.List.{List, [], _∷_, _++_, map}
 use mathlib.Core.Path.{_≡_, refl, sym, _∙_, ap, subst}
 use native.Mathlib.Nat.{add-zero, zero-add}
 use native.Mathlib.Omega.{arith}
@@ -11,13 +11,16 @@ use lib.Dec.{leb}
 use lib.ListN.{length, length-append}
 use lib.Seq.{take-all}
 use Rattle.number.specs.Tests.{pick}
-use Rattle.form.specs.Form.{Stands}
+use Rattle.form.specs.Form.{Room, Stands}
 use Rattle.form.specs.Read.{Read, got, stop, allChars}
 use Rattle.form.proofs.TextLaws.{chars-append, stands-split, stands-join, stands-take, take-stands}
+use Rattle.model.specs.Promises.{Valid}
+use Rattle.claim.specs.Claims.{claimOf}
 use Rattle.claim.specs.Instruction as line
-use Rattle.claim.specs.Instruction.{Fields, Instruction, Decoded, decode}
+use Rattle.claim.specs.Instruction.{Fields, Instruction, Decoded, decode, Sized}
 use Rattle.claim.specs.Paper.{Decodes, none, more}
-use Rattle.list.specs.Line.{printLine, readLine}
+use Rattle.claim.proofs.ClaimLaws.{line-valid}
+use Rattle.list.specs.Line.{LineRoom, printLine, readLine}
 use Rattle.list.specs.List as list
 use Rattle.list.specs.List.{Next, decided, before, nextOf, nextLine, Listed, instructions, refusedIn, listBy, listFrom, readList, beforeAll, LinesRoom, printLines}
 use Rattle.list.proofs.LineLaws.{line-chars, line-some, read-printed, print-read, line-inside}
@@ -178,3 +181,20 @@ lines-of-list l t is e =
     let r = lines-from (suc (length t)) t 0 l is (omega arith) (omega arith) e in
     let s : List ℕ = printLines (r .0) in
     (r .0, r .1, r .2, sym (take-all (length s) t (omega (arith, r .4))) ∙ stands-take t 0 s (lines-chars (r .0)) (r .3))
+
+-- ---- its claims
+
+-- fields with room in a line are as wide as document 01 says
+line-sized : (f : Fields) → LineRoom f → Sized f
+unfolding Room
+line-sized f h = record { cn = h .0; op = h .1 .0; at1 = h .1 .1 .0; len1 = h .1 .1 .1 .0; at2 = h .1 .1 .1 .1 .0; len2 = h .1 .1 .1 .1 .1 .0 }
+
+lines-valid : {fs : List Fields} {is : List Instruction} → Decodes fs is → LinesRoom fs → Valid (map claimOf is)
+lines-valid none room = tt
+lines-valid (more {f = f} e d) room = (line-valid (line-sized f (room .0)) e, lines-valid d (room .1))
+
+-- the claims of a list are such as a trace can carry
+pub list-valid : (l : ℕ) (t : List ℕ) (is : List Instruction) → readList l t ≡ instructions is → Valid (map claimOf is)
+list-valid l t is e =
+    let r = lines-of-list l t is e in
+    lines-valid (r .2) (r .1)

@@ -1,7 +1,7 @@
 -- The line in the parts that the code reads: one part after the other is the whole line.
 use Prim.Native.Nat.{ℕ, _+_, _*_, _^_, _≤_, _<_}
 use mathlib.Core.List.{List, [], _∷_, _++_, append-nil}
-use mathlib.Core.Path.{_≡_, refl, sym, _∙_, ap}
+use mathlib.Core.Path.{_≡_, refl, _∙_}
 use native.Mathlib.Omega.{arith}
 use Rattle.number.specs.Whole.{whole}
 use Rattle.number.specs.declared.long.Long.{Long}
@@ -18,10 +18,6 @@ use Rattle.list.specs.Line.{cnField, opField, at1Field, len1Field, at2Fi
 use Rattle.list.specs.List.{decided}
 use Rattle.list.specs.Told.{toldNext}
 use Rattle.list.specs.declared.Next.the-variants.{One, Refused}
-
--- what a call is known to have answered, as its contract tells it
-pub known : {A B : Type 0} (tells : A → B) {r w : A} {x : B} → r ≡ w → tells r ≡ x → x ≡ tells w
-known tells e h = sym h ∙ ap tells e
 
 -- the number of a field has room
 field-room : (f : Field) (t : List ℕ) (p : ℕ) {v q : ℕ} → readField f t p ≡ got v q → v < room (f .kind)

@@ -3,7 +3,7 @@ use Prim.Native.Nat.{ℕ}
 use mathlib.Core.List.{List, [], _∷_, _++_}
 use lib.ListN.{getD}
 use Rattle.form.specs.Ascii.{ascii}
-use Rattle.form.specs.Form.{Field, number, digits, printForm, Room, readField, readForm}
+use Rattle.form.specs.Form.{Field, upTo, exactly, printForm, Room, readField, readForm}
 use Rattle.form.specs.Read.{Read, got, andThen, readText}
 use Rattle.claim.specs.Instruction.{Fields}
 
@@ -19,14 +19,14 @@ longDigits = 32
 
 -- a name, and a number of at most so many digits after it
 abbrev pub named : (name : List ℕ) → (most : ℕ) → Field
-named name most = record { name = name; kind = number most }
+named name most = record { name = name; kind = upTo most }
 
 -- One line per instruction, fields in this order, one space between, newline at the end of each: `cn= op= at1= len1= at2= len2=`.
 abbrev pub cnField : Field
 cnField = named (ascii "cn=") cnDigits
 
 abbrev pub opField : Field
-opField = record { name = ascii " op="; kind = digits opDigits }
+opField = record { name = ascii " op="; kind = exactly opDigits }
 
 abbrev pub at1Field : Field
 at1Field = named (ascii " at1=") longDigits

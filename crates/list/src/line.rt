@@ -1,18 +1,15 @@
 // The line of a list, read from a place on. Each reader answers on every text and place: what it read and the place after it, or the place of the first
 // character that cannot continue any line. Only crates of this repository call these readers.
 ghost use mathlib.Core.Path.{_≡_};
-ghost use Prim.Native.Nat.{_≤_};
-ghost use Rattle.form.specs.Form.{readField};
-ghost use Rattle.form.specs.Plain.{mostDigits, number};
 ghost use Rattle.claim.specs.Told.{plainFields};
 ghost use Rattle.list.specs.Line.{longDigits, named, cnField, opField, readTwo, readFour, closed, readLine};
 ghost use Rattle.list.specs.Told.{headRead, rangeRead, rangesRead, lineRead};
 use claim::instruction::Fields;
 use claim::instruction::Range;
+use form::Kind;
 use form::Matched;
 use form::Number;
-use form::read_digits;
-use form::read_number;
+use form::read_field;
 use form::read_text;
 
 // The digits of cn and of an offset or a length, at most; and of op, exactly.
@@ -23,19 +20,19 @@ const LONG_DIGITS: usize = 32;
 const OP_DIGITS: usize = 2;
 
 // cn and op.
-pub enum Head {
+enum Head {
     Got { cn: u32, op: u8, next: usize },
     Stop(usize),
 }
 
 // An offset and a length.
-pub enum OneRange {
+enum OneRange {
     Got(Range, usize),
     Stop(usize),
 }
 
 // Two of them.
-pub enum Ranges {
+enum Ranges {
     Got(Range, Range, usize),
     Stop(usize),
 }
@@ -46,38 +43,15 @@ pub enum Line {
     Stop(usize),
 }
 
-// A name, and a number of at most so many digits.
-fn read_named(t: &[u8], p: usize, name: &[u8], most: usize) -> Number
-    requires { ⌜ most ≤ mostDigits ⌝ }
-    ensures { λ r. ⌜ number r ≡ readField (named (now (name .entry)) most) (now (t .entry)) p ⌝ }
-{
-    let matched = read_text(t, p, name);
-    match matched {
-        Matched::Stop(q) => Number::Stop(q),
-        Matched::To(q) => read_number(t, q, most),
-    }
-}
-
-// The opcode, by its name.
-fn read_op(t: &[u8], p: usize) -> Number
-    ensures { λ r. ⌜ number r ≡ readField opField (now (t .entry)) p ⌝ }
-{
-    let matched = read_text(t, p, b" op=");
-    match matched {
-        Matched::Stop(q) => Number::Stop(q),
-        Matched::To(q) => read_digits(t, q, OP_DIGITS, OP_DIGITS),
-    }
-}
-
 // cn and op.
 fn read_head(t: &[u8], p: usize) -> Head
     ensures { λ r. ⌜ headRead r ≡ readTwo cnField opField (now (t .entry)) p ⌝ }
 {
-    let cn = read_named(t, p, b"cn=", CN_DIGITS);
+    let cn = read_field(t, p, b"cn=", Kind::UpTo(CN_DIGITS));
     match cn {
         Number::Stop(q) => Head::Stop(q),
         Number::Got(cn, q) => {
-            let op = read_op(t, q);
+            let op = read_field(t, q, b" op=", Kind::Exactly(OP_DIGITS));
             match op {
                 Number::Stop(r) => Head::Stop(r),
                 Number::Got(op, r) => Head::Got {
@@ -94,11 +68,11 @@ fn read_head(t: &[u8], p: usize) -> Head
 fn read_range(t: &[u8], p: usize, first: &[u8], second: &[u8]) -> OneRange
     ensures { λ r. ⌜ rangeRead r ≡ readTwo (named (now (first .entry)) longDigits) (named (now (second .entry)) longDigits) (now (t .entry)) p ⌝ }
 {
-    let at = read_named(t, p, first, LONG_DIGITS);
+    let at = read_field(t, p, first, Kind::UpTo(LONG_DIGITS));
     match at {
         Number::Stop(q) => OneRange::Stop(q),
         Number::Got(at, q) => {
-            let len = read_named(t, q, second, LONG_DIGITS);
+            let len = read_field(t, q, second, Kind::UpTo(LONG_DIGITS));
             match len {
                 Number::Stop(r) => OneRange::Stop(r),
                 Number::Got(len, r) => OneRange::Got(Range { at, len }, r),

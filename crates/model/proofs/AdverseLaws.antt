@@ -15,6 +15,7 @@ use Rattle.number.specs.Sums.{prefixAt, digitAt}
 use Rattle.number.specs.Tables.{every}
 use Rattle.number.proofs.TableLaws.{every-at, and-left, and-right}
 use Rattle.gas.specs.Gas.{words, cost, split, joined}
+use Rattle.number.proofs.TestLaws.{is-true}
 use Rattle.model.specs.Adverse.{BreaksOnly, Witness, Says, sample, witnesses, noEntry, entry, nextRows}
 use Rattle.model.specs.Columns.{Cells, columns, cellsIn, widths, rowIn, rowAt, table, bytesOf}
 use Rattle.model.specs.Constraints.{lastCt, inUse, equal, stays, grows, constraints, constraint, firstFailed, firstBroken}
@@ -29,7 +30,7 @@ use Rattle.model.specs.Trace.{inBounds, lastOf, apart, above, lastWord, 
 use Rattle.model.specs.Trace.{rowOf, cycleOf, after, cyclesOf, trace, traceBytes}
 use Rattle.model.specs.Verdict.{passed, before, view, brokenAt, Judgement, meet, break, judged, judgedRows, maxRows}
 use Rattle.model.proofs.RowBytes.{AllFit}
-use Rattle.model.proofs.TableOf.{length-table, getD-table}
+use Rattle.model.proofs.TableOf.{below, below-at}
 use Rattle.model.proofs.TestFacts.{all-at}
 
 -- ---- judgements
@@ -84,19 +85,6 @@ all-fit (x ∷ xs) t =
     (fits-fit widths (cellsIn columns x) (and-left (rowFits x) (every rowFits xs) t), all-fit xs (and-right (rowFits x) (every rowFits xs) t))
 
 -- ---- constraints that hold
-
--- the numbers below n
-abbrev below : ℕ → List ℕ
-below n = table n (λ i. i)
-
-below-at : (f : ℕ → Bool) (n : ℕ) → T (every f (below n)) → (i : ℕ) → i < n → T (f i)
-below-at f n t i h =
-    let l : i < length (below n) = rw (length-table n (λ j. j)) h in
-    rw (getD-table n (λ j. j) i 0 h) at (every-at f (below n) t i 0 l)
-
-is-true : (b : Bool) → T b → b ≡ true
-is-true true t = refl
-is-true false t = absurd t
 
 module _ (k : ℕ) (xs : List Cells) where
   -- whether row i meets each constraint, where that at place k, number k + 1, is passed over

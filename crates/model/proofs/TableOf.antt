@@ -1,11 +1,15 @@
 -- The list of f 0 .. f (n - 1): its length, its entries and its parts; and every list is one.
 use Prim.Native.Nat.{ℕ, zero, suc, _+_, _≤_, _<_, zero-le, suc-le-suc}
+use mathlib.Core.Bool.{Bool}
 use mathlib.Core.List.{List, [], _∷_, _++_}
 use mathlib.Core.Path.{_≡_, refl, sym, _∙_, ap}
 use native.Mathlib.Nat.{add-zero, add-suc, suc-add, le-of-suc-le-suc, not-suc-le-zero}
 use native.Mathlib.Omega.{arith}
+use lib.Dec.{T}
 use lib.ListN.{length, drop, getD}
 use lib.Seq.{drop-cons}
+use Rattle.number.specs.Tables.{every}
+use Rattle.number.proofs.TableLaws.{every-at}
 use Rattle.model.specs.Columns.{table}
 
 module _ {A : Type 0} where
@@ -59,3 +63,13 @@ module _ {A : Type 0} where
   pub drop-table : (n : ℕ) (f : ℕ → A) (k p : ℕ) → p + k ≤ n → drop p (table n f) ≡ table k (λ i. f (p + i)) ++ drop (p + k) (table n f)
   drop-table n f zero p h = unfold table in rw add-zero
   drop-table n f (suc k) p h = drop-next n f k p (omega arith) (drop-table n f k (suc p) (omega arith))
+
+-- the numbers below n
+abbrev pub below : ℕ → List ℕ
+below n = table n (λ i. i)
+
+-- a test that passes at each of them
+pub below-at : (f : ℕ → Bool) (n : ℕ) → T (every f (below n)) → (i : ℕ) → i < n → T (f i)
+below-at f n t i h =
+    let l : i < length (below n) = rw (length-table n (λ j. j)) h in
+    rw (getD-table n (λ j. j) i 0 h) at (every-at f (below n) t i 0 l)

@@ -2,6 +2,7 @@
 use mathlib.Core.Bool.{Bool, true, false, _&&_, _||_}
 use mathlib.Core.Logic.{_⊎_, inl, inr}
 use mathlib.Core.Path.{_≡_, refl, sym}
+use lib.Dec.{T}
 
 -- one test for another, where each holds if the other does
 pub same-test : (x y : Bool) → (x ≡ true → y ≡ true) → (y ≡ true → x ≡ true) → x ≡ y
@@ -32,3 +33,8 @@ either-left false false e = e
 pub either-right : (x y : Bool) → y ≡ true → (x || y) ≡ true
 either-right true y e = refl
 either-right false y e = e
+
+-- a test that passes
+pub is-true : (b : Bool) → T b → b ≡ true
+is-true true t = refl
+is-true false t = absurd t

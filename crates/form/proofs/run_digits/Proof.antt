@@ -12,7 +12,8 @@ use Rattle.number.specs.Whole.{whole}
 use Rattle.number.proofs.LongLaws.{whole-long}
 use Rattle.form.specs.Hex.{isDigit, digitOf}
 use Rattle.form.specs.Read.{charAt, run}
-use Rattle.form.proofs.StepLaws.{char-in, no-digit-past, run-next, run-stops, digit-room, digit-less}
+use Rattle.form.proofs.StepLaws.{char-in, no-digit-past, digit-room, digit-less}
+use Rattle.form.proofs.ReadLaws.{run-on, run-ends}
 use Rattle.form.proofs.run_digits.Statement.{statement}
 use Rattle.form.proofs.run_digits.Tie as tie
 
@@ -35,7 +36,7 @@ returns : tie.Need-returns Inv-loop μ-loop
 returns c =
     let l = c .before .before .loop in
     let a = c .before .before .before .before .before .args in
-    (sym (run-stops _ (a .t .now) (whole (l .value)) (l .at) (no-digit-past (a .t .now) (l .at) (search needs))) ∙ l .inv .3, l .inv .1)
+    (sym (run-ends (a .t .now) _ (whole (l .value)) (l .at) (no-digit-past (a .t .now) (l .at) (search needs))) ∙ l .inv .3, l .inv .1)
 
 shared-slice-read-c : tie.Need-shared-slice-read-c Inv-loop μ-loop
 shared-slice-read-c c = search needs
@@ -49,7 +50,7 @@ returns-2 c =
     let a = c .before .before .before .before .before .before .before .before .args in
     let here = char-in (a .t .now) (l .at) (search needs) in
     let no : isDigit (charAt (a .t .now) (l .at)) ≡ false = ap isDigit here ∙ sym (c .before .is-digit .ensures) ∙ not-true _ (c .if2 .taken) in
-    (sym (run-stops _ (a .t .now) (whole (l .value)) (l .at) no) ∙ l .inv .3, l .inv .1)
+    (sym (run-ends (a .t .now) _ (whole (l .value)) (l .at) no) ∙ l .inv .3, l .inv .1)
 
 digit-of-requires : tie.Need-digit-of-requires Inv-loop μ-loop
 digit-of-requires c κs = sym (c .before .is-digit .ensures) ∙ not-false _ (c .if2 .left)
@@ -83,7 +84,7 @@ loop-again c =
       search needs,
       search needs,
       rw (more, add-one) (digit-less (whole (l .value)) d (l .count) (l .inv .2) (c .before .digit-of .ensures .1)),
-      rw (more, counts, add-one (l .at)) (sym (run-next (a .most - (l .count + 1)) (a .t .now) (whole (l .value)) (l .at) yes) ∙ rw left at (l .inv .3)),
+      rw (more, counts, add-one (l .at)) (sym (run-on (a .t .now) (a .most - (l .count + 1)) (whole (l .value)) (l .at) yes) ∙ rw left at (l .inv .3)),
     )
 
 returns-3 : tie.Need-returns-3 Inv-loop μ-loop

@@ -6,10 +6,11 @@ use borrow.Author.Tests.{le-leb, lt-leb}
 use lib.ListN.{length}
 use Rattle.claim.specs.Instruction.{decode}
 use Rattle.refusal.specs.declared.Refusal.{Refusal}
+use Rattle.form.proofs.StepLaws.{known}
 use Rattle.list.specs.List.{nextLine}
 use Rattle.list.specs.Told.{lineRead}
 use Rattle.list.specs.declared.Next.the-variants.{Refused}
-use Rattle.list.proofs.PartLaws.{known, made-next, refused-next}
+use Rattle.list.proofs.PartLaws.{made-next, refused-next}
 use Rattle.list.proofs.next_line.Statement.{statement}
 use Rattle.list.proofs.next_line.Tie as tie
 

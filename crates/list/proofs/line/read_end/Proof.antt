@@ -2,8 +2,8 @@
 use borrow.Author.Needs.{needs}
 use Rattle.form.specs.Plain as plain
 use Rattle.form.specs.Read.{readText}
+use Rattle.form.proofs.StepLaws.{known}
 use Rattle.list.specs.Line.{lineEnd, closed}
-use Rattle.list.proofs.PartLaws.{known}
 use Rattle.list.proofs.line.read_end.Statement.{statement}
 use Rattle.list.proofs.line.read_end.Tie as tie
 

@@ -1,7 +1,8 @@
 -- `list::line::read_line` meets its contract: cn and op, both ranges and the newline are the line (`line-parts`).
 use borrow.Author.Needs.{needs}
+use Rattle.form.proofs.StepLaws.{known}
 use Rattle.list.specs.Told.{headRead, rangesRead}
-use Rattle.list.proofs.PartLaws.{known, line-parts}
+use Rattle.list.proofs.PartLaws.{line-parts}
 use Rattle.list.proofs.line.read_line.Statement.{statement}
 use Rattle.list.proofs.line.read_line.Tie as tie
 

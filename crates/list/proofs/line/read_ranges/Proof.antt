@@ -1,8 +1,8 @@
 -- `list::line::read_ranges` meets its contract: one range and then the other.
 use borrow.Author.Needs.{needs}
+use Rattle.form.proofs.StepLaws.{known}
 use Rattle.list.specs.Line.{at2Field, len2Field, readTwo, readFour}
 use Rattle.list.specs.Told.{rangeRead}
-use Rattle.list.proofs.PartLaws.{known}
 use Rattle.list.proofs.line.read_ranges.Statement.{statement}
 use Rattle.list.proofs.line.read_ranges.Tie as tie
 

@@ -9,7 +9,7 @@ use reference::vectors::all;
 
 fn main() -> Result<(), Box<dyn Error>> {
     let folder = env::args_os().nth(1).map(PathBuf::from);
-    let folder = folder.ok_or("usage: vectors FOLDER")?;
+    let folder = folder.ok_or("usage: verify_vectors FOLDER")?;
     fs::create_dir_all(&folder)?;
     let vectors = all();
     let mut expected = String::new();
