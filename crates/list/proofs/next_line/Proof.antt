@@ -5,6 +5,7 @@ use borrow.Author.Needs.{needs}
 use borrow.Author.Tests.{le-leb, lt-leb}
 use lib.ListN.{length}
 use Rattle.claim.specs.Instruction.{decode}
+use Rattle.claim.specs.Told.{plainFields}
 use Rattle.refusal.specs.declared.Refusal.{Refusal}
 use Rattle.form.proofs.StepLaws.{known}
 use Rattle.list.specs.List.{nextLine}
@@ -71,7 +72,7 @@ returns-4 c =
     let a = call .before .before .before .args in
     rw
     (lt-leb (length (a .t .now)) (a .p) (omega arith), known lineRead (read .line2 .given .1) (call .read-line .ensures))
-    (refused-next _ _ (decode _) (sym (decided .decode-fields .ensures) ∙ c .before .decoded2 .given .1))
+    (refused-next (a .number) (read .line2 .given .0 .1 .0) (decode (plainFields (read .line2 .given .0 .0))) (sym (decided .decode-fields .ensures) ∙ c .before .decoded2 .given .1))
 
 pub next-line-spec : {M : Type 1} → statement M
 next-line-spec =

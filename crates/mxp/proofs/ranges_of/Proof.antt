@@ -1,4 +1,5 @@
 -- `mxp::ranges_of` lays the ranges out, case by case.
+use mathlib.Core.Path.{refl}
 use borrow.Author.Needs.{needs}
 use Rattle.mxp.proofs.ranges_of.Statement.{statement}
 use Rattle.mxp.proofs.ranges_of.Tie as tie
@@ -33,7 +34,7 @@ returns-2 c =
     rw (told .1) (λ i. record { count = 1; first = told .0 .0; second = c .no-range3 .ensures i })
 
 returns-3 : tie.Need-returns-3
-returns-3 c = rw (c .before .touched2 .given .1)
+returns-3 c = rw (c .before .touched2 .given .1) refl
 
 pub ranges-of-spec : {M : Type 1} → statement M
 ranges-of-spec =

@@ -20,14 +20,14 @@ enum-known-matched-2 : tie.Need-enum-known-matched-2
 enum-known-matched-2 c = search needs
 
 returns : tie.Need-returns
-unfolding closed
+unfolding closed readText
 returns c =
     let call = c .before .before .before in
     let a = call .before .before .before .args in
     rw (known plain.matched {x = readText lineEnd (a .t .now) (a .p)} (c .before .matched .given .1) (call .read-text .ensures))
 
 returns-2 : tie.Need-returns-2
-unfolding closed
+unfolding closed readText
 returns-2 c =
     let call = c .before .before .before in
     let a = call .before .before .before .args in
