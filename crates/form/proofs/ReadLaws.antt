@@ -13,6 +13,7 @@ use lib.Seq.{take-length, take-at, getD-take, length-take-le}
 use Rattle.number.specs.Digits.{digits, digitsIn, spellAfter, spell, AllBelow}
 use Rattle.number.specs.Tests.{pick}
 use Rattle.number.proofs.DigitLaws.{below-append, spell-lt, spell-digits, digits-below, length-digits-pos, length-digits-in, spell-digits-in, digits-in-below}
+use Rattle.number.proofs.TestLaws.{clash}
 use Rattle.form.specs.Hex.{code-0, digitCode, isDigit, digitOf, hex, hexIn}
 use Rattle.form.specs.Read.{Read, got, stop, andThen, noChar, charAt, readText, Run, run, readDigits, readNumber}
 use Rattle.form.specs.Form.{Kind, upTo, exactly, printNumber, room, readKind, Stands, Begins}
@@ -30,7 +31,7 @@ module _ {A B : Type 0} where
   -- what two readers answer, one after the other, comes from both
   pub then-got : (r : Read A) (f : A → ℕ → Read B) {b : B} {q : ℕ} → andThen r f ≡ got b q → (a : A) × (p : ℕ) × (r ≡ got a p) × (f a p ≡ got b q)
   then-got (got a p) f e = (a, p, refl, e)
-  then-got (stop p) f e = let z : _≡_ {A = ℕ} 0 1 = cc in absurd (omega arith)
+  then-got (stop p) f e = clash cc
 
   -- and where they stop, the first did, or the second after the first
   pub then-stop : (r : Read A) (f : A → ℕ → Read B) {q : ℕ} {C : Type 0} → andThen r f ≡ stop q
@@ -44,7 +45,7 @@ module _ {A B : Type 0} where
   made-reached (stop p) g = refl
 
   pub made-stop : (r : Read A) (g : A → B) {q : ℕ} → andThen r (λ a p. got (g a) p) ≡ stop q → r ≡ stop q
-  made-stop (got a p) g e = let z : _≡_ {A = ℕ} 0 1 = cc in absurd (omega arith)
+  made-stop (got a p) g e = clash cc
   made-stop (stop p) g e = cc
 
   -- the second goes on from where the first ended
@@ -72,12 +73,12 @@ module _ (t : List ℕ) where
       by : (b : Bool) → eqb (charAt t p) c ≡ b → pick b (readText s t (suc p)) (stop p) ≡ got u q
           → (readText s t (suc p) ≡ got u q → Stands t (suc p) s × (q ≡ suc p + length s)) → Stands t p (c ∷ s) × (q ≡ p + suc (length s))
       by true i e rest = let r = rest e in ((eqb-true (charAt t p) c i, r .0), omega arith)
-      by false i e rest = let z : _≡_ {A = ℕ} 0 1 = cc in absurd (omega arith)
+      by false i e rest = clash cc
 
   -- where the reader stops, those before stand there
   pub text-stops : (s : List ℕ) (p : ℕ) {q : ℕ} → readText s t p ≡ stop q → Begins t p q s
   unfolding readText
-  text-stops [] p {q} e = let z : _≡_ {A = ℕ} 0 1 = cc in absurd (omega arith)
+  text-stops [] p {q} e = clash cc
   text-stops (c ∷ s) p {q} e = by (eqb (charAt t p) c) refl e (text-stops s (suc p))
     where
       by : (b : Bool) → eqb (charAt t p) c ≡ b → pick b (readText s t (suc p)) (stop p) ≡ stop q
@@ -195,7 +196,7 @@ module _ (t : List ℕ) where
 
       by : (b : Bool) → ltb (r .next) (p + least) ≡ b → pick b (stop (r .next)) (got (r .value) (r .next)) ≡ got v q
           → (p + least ≤ q) × (v ≡ r .value) × (q ≡ r .next)
-      by true i e = let z : _≡_ {A = ℕ} 0 1 = cc in absurd (omega arith)
+      by true i e = clash cc
       by false i e =
           let same : r .next ≡ q = cc in
           (omega (arith, ltb-false (r .next) (p + least) i), cc, cc)
@@ -213,7 +214,7 @@ module _ (t : List ℕ) where
       by true i e =
           let same : r .next ≡ q = cc in
           (omega (arith, ltb-true (r .next) (p + least) i), cc)
-      by false i e = let z : _≡_ {A = ℕ} 0 1 = cc in absurd (omega arith)
+      by false i e = clash cc
 
   -- in any case it ends where the run does
   digits-reached : (least most p : ℕ) → reached (readDigits least most t p) ≡ run most t 0 p .next

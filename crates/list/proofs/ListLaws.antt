@@ -11,6 +11,7 @@ use lib.Dec.{leb}
 use lib.ListN.{length, length-append}
 use lib.Seq.{take-all}
 use Rattle.number.specs.Tests.{pick}
+use Rattle.number.proofs.TestLaws.{clash}
 use Rattle.form.specs.Form.{Room, Stands}
 use Rattle.form.specs.Read.{Read, got, stop, allChars}
 use Rattle.form.proofs.TextLaws.{chars-append, stands-split, stands-join, stands-take, take-stands}
@@ -43,12 +44,12 @@ next-line t p {i} {q} = by (leb (length t) p) (readLine t p) refl
   where
     decides : (f : Fields) (r : ℕ) (d : Decoded) → decode f ≡ d → decided r d ≡ list.one i q → (got f r ≡ got f q) × (decode f ≡ line.decoded i)
     decides f r (line.decoded j) e h = (cc, cc)
-    decides f r (line.refused n) e h = let z : _≡_ {A = ℕ} 0 1 = cc in absurd (omega arith)
+    decides f r (line.refused n) e h = clash cc
 
     by : (b : Bool) (r : Read Fields) → readLine t p ≡ r → pick b list.end (nextOf r) ≡ list.one i q
         → (f : Fields) × (readLine t p ≡ got f q) × (decode f ≡ line.decoded i)
-    by true r e h = let z : _≡_ {A = ℕ} 0 1 = cc in absurd (omega arith)
-    by false (stop o) e h = let z : _≡_ {A = ℕ} 0 1 = cc in absurd (omega arith)
+    by true r e h = clash cc
+    by false (stop o) e h = clash cc
     by false (got f o) e h =
         let d = decides f o (decode f) refl h in
         (f, e ∙ d .0, d .1)
@@ -59,12 +60,12 @@ unfolding nextLine
 end-next t p = by (leb (length t) p) refl (readLine t p)
   where
     decides : (r : ℕ) (d : Decoded) → decided r d ≡ list.end → ⊥
-    decides r (line.decoded j) h = let z : _≡_ {A = ℕ} 0 1 = cc in absurd (omega arith)
-    decides r (line.refused n) h = let z : _≡_ {A = ℕ} 0 1 = cc in absurd (omega arith)
+    decides r (line.decoded j) h = clash cc
+    decides r (line.refused n) h = clash cc
 
     by : (b : Bool) → leb (length t) p ≡ b → (r : Read Fields) → pick b list.end (nextOf r) ≡ list.end → length t ≤ p
     by true e r h = leb-true (length t) p e
-    by false e (stop o) h = let z : _≡_ {A = ℕ} 0 1 = cc in absurd (omega arith)
+    by false e (stop o) h = clash cc
     by false e (got f o) h = absurd (decides o (decode f) h)
 
 -- and there it does
@@ -163,7 +164,7 @@ lines-from (suc k) t p l is inside fuel e = by (nextLine t p) refl e (λ q. line
           stands-join t p (printLine (m .0)) (printLines (rs .0)) (printed .1) behind,
           rw length-append (omega (arith, printed .2, rs .4)),
         )
-    after i q n (refusedIn m o r) e h rest = let z : _≡_ {A = ℕ} 0 1 = cc in absurd (omega arith)
+    after i q n (refusedIn m o r) e h rest = clash cc
 
     by : (x : Next) → nextLine t p ≡ x → listBy l (λ q. listFrom k t q (suc l)) x ≡ instructions is
         → ((q : ℕ) (js : List Instruction) → q ≤ length t → length t < k + q → listFrom k t q (suc l) ≡ instructions js → Lines q js) → Lines p is
@@ -171,7 +172,7 @@ lines-from (suc k) t p l is inside fuel e = by (nextLine t p) refl e (λ q. line
         let empty : [] ≡ is = cc in
         ([], tt, rw (← empty) none, tt, omega (arith, end-next t p n))
     by (list.one i q) n h rest = after i q n (listFrom k t q (suc l)) refl h (rest q)
-    by (list.refused m q) n h rest = let z : _≡_ {A = ℕ} 0 1 = cc in absurd (omega arith)
+    by (list.refused m q) n h rest = clash cc
 
 -- a text that is a list is the lines of some fields, and these are its instructions
 pub lines-of-list : (l : ℕ) (t : List ℕ) (is : List Instruction) → readList l t ≡ instructions is

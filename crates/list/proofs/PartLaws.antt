@@ -5,6 +5,7 @@ use mathlib.Core.Path.{_≡_, refl, _∙_}
 use native.Mathlib.Omega.{arith}
 use Rattle.number.specs.Whole.{whole}
 use Rattle.number.specs.declared.long.Long.{Long}
+use Rattle.number.proofs.TestLaws.{clash}
 use Rattle.form.specs.Form.{Field, room, readKind, readField, readForm}
 use Rattle.form.specs.Read.{Read, got, stop, andThen, readText}
 use Rattle.form.proofs.ReadLaws.{then-got, kind-read}
@@ -99,8 +100,8 @@ line-parts t p =
 -- the answer for the fields of a line is what comes next
 pub made-next : (l q : ℕ) (d : spec.Decoded) {i : Instruction} → toldDecoded l d ≡ Made i → One i q ≡ toldNext l (decided q d)
 made-next l q (spec.decoded j) e = cc
-made-next l q (spec.refused n) e = let z : _≡_ {A = ℕ} 0 1 = cc in absurd (omega arith)
+made-next l q (spec.refused n) e = clash cc
 
 pub refused-next : (l q : ℕ) (d : spec.Decoded) {w : Refusal} → toldDecoded l d ≡ claim.Refused w → Refused w 0 ≡ toldNext l (decided q d)
-refused-next l q (spec.decoded j) e = let z : _≡_ {A = ℕ} 0 1 = cc in absurd (omega arith)
+refused-next l q (spec.decoded j) e = clash cc
 refused-next l q (spec.refused n) e = cc

@@ -1,7 +1,9 @@
--- Boolean tests and what they say.
+-- Boolean tests and what they say, and the case that cannot be.
+use Prim.Native.Nat.{ℕ}
 use mathlib.Core.Bool.{Bool, true, false, _&&_, _||_}
 use mathlib.Core.Logic.{_⊎_, inl, inr}
 use mathlib.Core.Path.{_≡_, refl, sym}
+use native.Mathlib.Omega.{arith}
 use lib.Dec.{T}
 
 -- one test for another, where each holds if the other does
@@ -38,3 +40,7 @@ either-right false y e = e
 pub is-true : (b : Bool) → T b → b ≡ true
 is-true true t = refl
 is-true false t = absurd t
+
+-- anything follows where 0 is 1, as `cc` finds it to be where two constructors are said to be equal
+pub clash : {A : Type 0} → _≡_ {A = ℕ} 0 1 → A
+clash e = absurd (omega (arith, e))
