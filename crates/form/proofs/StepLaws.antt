@@ -1,20 +1,19 @@
 -- Laws of the readers, one character at a time, as the code reads them.
 use Prim.Native.Nat.{ℕ, zero, suc, _+_, _*_, _^_, _≤_, _<_}
-use mathlib.Core.Bool.{true, false, _&&_}
+use mathlib.Core.Bool.{true, false}
 use mathlib.Core.List.{List, [], _∷_}
 use mathlib.Core.Logic.{⊎-elim}
 use mathlib.Core.Path.{_≡_, refl, sym, _∙_, ap}
 use native.Mathlib.Nat.{pow-suc, pow-le-pow-right}
 use native.Mathlib.Omega.{arith}
-use borrow.Author.Tests.{eq-eqb, ne-eqb, leb-true, lt-ltb, le-ltb}
-use lib.Dec.{leb}
+use borrow.Author.Tests.{eq-eqb, ne-eqb, lt-ltb, le-ltb}
 use lib.ListN.{length, getD, drop, List·getD-eq-default}
 use lib.Seq.{drop-cons}
 use Rattle.number.specs.Whole.{whole}
 use Rattle.number.specs.declared.long.Long.{Long}
-use Rattle.number.proofs.TestLaws.{both, either}
 use Rattle.form.specs.Hex.{code-0, code-9, code-a, code-f, isDigit}
 use Rattle.form.specs.Read.{got, stop, noChar, charAt, readText, Run, run, readDigits}
+use Rattle.form.proofs.HexLaws.{digit-cases}
 
 -- ---- characters
 
@@ -24,7 +23,7 @@ char-in [] p h = absurd (omega arith)
 char-in (c ∷ t) zero h = refl
 char-in (c ∷ t) (suc p) h = char-in t p (omega arith)
 
--- past its end there is none, and none is a digit
+-- past its end there is none, so no digit
 pub char-past : (t : List ℕ) (p : ℕ) → length t ≤ p → charAt t p ≡ noChar
 char-past t p h = List·getD-eq-default t noChar h
 
@@ -32,22 +31,12 @@ pub no-digit-past : (t : List ℕ) (p : ℕ) → length t ≤ p → isDigit (cha
 unfolding isDigit
 no-digit-past t p h = rw (char-past t p h)
 
--- what a digit is: `0` to `9`, or `a` to `f`
+-- a digit is not below `0`, and past `9` it is a letter
 pub digit-least : (c : ℕ) → isDigit c ≡ true → code-0 ≤ c
-unfolding isDigit
-digit-least c e =
-    ⊎-elim (λ d. leb-true code-0 c (both (leb code-0 c) (leb c code-9) d .0))
-    (λ d. omega (arith, leb-true code-a c (both (leb code-a c) (leb c code-f) d .0)))
-    (either (leb code-0 c && leb c code-9) (leb code-a c && leb c code-f) e)
+digit-least c e = ⊎-elim (λ d. d .0) (λ d. omega arith) (digit-cases c e)
 
 pub letter-least : (c : ℕ) → isDigit c ≡ true → code-9 < c → (code-a ≤ c) × (c ≤ code-f)
-unfolding isDigit
-letter-least c e h =
-    ⊎-elim (λ d. absurd (omega (arith, leb-true c code-9 (both (leb code-0 c) (leb c code-9) d .1))))
-    (λ d.
-    let p = both (leb code-a c) (leb c code-f) d in
-    (leb-true code-a c (p .0), leb-true c code-f (p .1)))
-    (either (leb code-0 c && leb c code-9) (leb code-a c && leb c code-f) e)
+letter-least c e h = ⊎-elim (λ d. absurd (omega arith)) (λ d. d) (digit-cases c e)
 
 -- ---- given characters
 
