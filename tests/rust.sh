@@ -1,6 +1,6 @@
 #!/usr/bin/env bash
-# The Rust side: the reference passes its tests, the kept vectors are those that it makes, and the built library answers as it does on
-# full-size and random traces and lists.
+# The Rust side: the reference passes its tests, the kept vectors are those that it makes, and the built library answers, and fills traces, as it
+# does on full-size and random traces and lists.
 set -euo pipefail
 root=$(cd "$(dirname "${BASH_SOURCE[0]}")/.." && pwd)
 room=$(mktemp -d)
@@ -19,7 +19,7 @@ passed=$(($(sed -n 's/^test result: ok\. \([0-9]*\) passed.*/\1/p' "$room/log" |
 [ "$passed" -gt 0 ] || fail "the reference has no tests"
 echo "reference: $passed tests passed"
 
-for kind in verify list; do
+for kind in verify list account; do
     quietly "$root/tools/vectors" "$kind" "$room/$kind"
     diff -r "$room/$kind" "$root/data/$kind" >&2 || fail "data/$kind differs from what the reference makes (tools/vectors $kind)"
     echo "data/$kind: $(cat "$room/log") as the reference makes them"
@@ -28,4 +28,4 @@ done
 library=$root/target/staticlib/libmxp.a
 [ -f "$library" ] || (cd "$root" && quietly rt staticlib mxp)
 MXP_LIB_DIR=$(dirname "$library") quietly cargo_in_rust build --package harness
-"$CARGO_TARGET_DIR/release/full" "$root/data/verify" "$root/data/list"
+"$CARGO_TARGET_DIR/release/full" "$root/data/verify" "$root/data/list" "$root/data/account"

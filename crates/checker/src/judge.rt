@@ -1,26 +1,20 @@
-// Row after row: the first broken constraint of each, and the counts so far.
+// Row after row: the first broken constraint of each.
 ghost use mathlib.Core.Path.{_≡_};
 ghost use Prim.Native.Nat.{_+_, _*_, _≤_, _<_};
 ghost use lib.ListN.{length};
 ghost use Rattle.model.specs.Columns.{rowBytes, rowAt, table};
-ghost use Rattle.model.specs.Cycles.{starts, counts as Cycles·counts};
+ghost use Rattle.model.specs.Cycles.{counts as Cycles·counts};
 ghost use Rattle.model.specs.Verdict.{brokenAt, judged, verdictBy, maxRows};
 ghost use Rattle.row.specs.Plain.{plain};
 ghost use Rattle.checker.specs.Answer.{told};
-ghost use Rattle.checker.specs.Rows.{InHand, asked, counted, plainCounts};
+ghost use Rattle.checker.specs.Rows.{InHand, asked};
 use crate::Counts;
 use crate::Verdict;
+use crate::count::count_row;
+use crate::count::starts_cycle;
 use row::cells::Row;
 use row::cells::empty_row;
 use row::read::read_row;
-use rules::words::bit;
-
-// Whether a cycle starts with the row.
-fn starts_cycle(x: Row) -> bool
-    ensures { λ r. ⌜ r ≡ starts (plain x) ⌝ }
-{
-    (x.head.stamp != 0) & (x.head.ct == 0)
-}
 
 // The answer to constraint 9 for row i, which is x and comes after b: it is asked where a cycle starts.
 fn keeps_state(t: &[u8], i: usize, b: Row, x: Row) -> bool
@@ -47,22 +41,6 @@ fn broken_constraint(t: &[u8], i: usize, n: usize, a: Row, b: Row, x: Row) -> u6
     let nine = keeps_state(t, i, b, x);
     let twenty_five = rules::beyond::rule25(x);
     rules::first::first_broken(a, b, x, i == 0, i + 1 == n, nine, twenty_five)
-}
-
-// One more row counted.
-fn count_row(c: Counts, x: Row) -> Counts
-    requires { ⌜ c .instructions < maxRows ⌝ }
-    requires { ⌜ c .oob < maxRows ⌝ }
-    requires { ⌜ c .empty < maxRows ⌝ }
-    ensures { λ r. ⌜ plainCounts r ≡ counted (plainCounts c) (plain x) ⌝ }
-{
-    let used = x.head.stamp != 0;
-    let starts = starts_cycle(x);
-    Counts {
-        instructions: c.instructions + bit(starts),
-        oob: c.oob + bit(starts & (x.head.ooob == 1)),
-        empty: c.empty + bit(!used),
-    }
 }
 
 // The verdict on n whole rows.

@@ -6,6 +6,7 @@ use model::MAX_ROWS;
 use model::ROW_BYTES;
 use refusal::Refusal;
 
+pub mod count;
 mod judge;
 
 // How many instructions a trace has, how many of them are out of bounds, and how many empty rows.

@@ -1,6 +1,6 @@
 -- The code's fields, instructions and claims as those of the definitions, and back.
 use Prim.Native.Nat.{ℕ}
-use Rattle.number.specs.Whole.{wide, whole, long}
+use Rattle.number.specs.Whole.{val, wide, whole, long}
 use Rattle.model.specs.Cycles as model
 use Rattle.refusal.specs.Refusals.{inLine}
 use Rattle.state.specs.Plain.{context}
@@ -56,3 +56,6 @@ toldDecoded line (spec.refused n) = Refused (inLine n line)
 -- a claim
 abbrev pub toldClaim : model.Claim → Claim
 toldClaim c = record { context = record { cn = c .context .cn }; end1 = wide (c .end1); end2 = wide (c .end2) }
+
+abbrev pub plainClaim : Claim → model.Claim
+plainClaim c = record { context = context (c .context); end1 = val (c .end1); end2 = val (c .end2) }

@@ -2,7 +2,7 @@
 -- lines of some fields, with nothing else in it.
 use Prim.Native.Nat.{ℕ, zero, suc, _+_, _-_, _≤_, _<_}
 use mathlib.Core.Bool.{Bool, true, false}
-use mathlib.Core.List.{List, [], _∷_, _++_, map}
+use mathlib.Core.List.{List, [], _∷_, _++_, append-nil, map}
 use mathlib.Core.Path.{_≡_, refl, sym, _∙_, ap, subst}
 use native.Mathlib.Nat.{add-zero, zero-add}
 use native.Mathlib.Omega.{arith}
@@ -87,12 +87,12 @@ unfolding printLines
 lines-chars [] = refl
 lines-chars (f ∷ fs) = chars-append (printLine f) (printLines fs) (line-chars f) (lines-chars fs)
 
--- instructions before none are these, and before a refusal are the refusal
-all-before : (is : List Instruction) → beforeAll is (instructions []) ≡ instructions is
-all-before [] = refl
-all-before (i ∷ is) = rw (all-before is)
+-- instructions before others are all of them in their order, and before a refusal are the refusal
+pub all-before : (is js : List Instruction) → beforeAll is (instructions js) ≡ instructions (is ++ js)
+all-before [] js = refl
+all-before (i ∷ is) js = rw (all-before is js)
 
-all-refused : (is : List Instruction) {n l q : ℕ} → beforeAll is (refusedIn n l q) ≡ refusedIn n l q
+pub all-refused : (is : List Instruction) {n l q : ℕ} → beforeAll is (refusedIn n l q) ≡ refusedIn n l q
 all-refused [] = refl
 all-refused (i ∷ is) = rw (all-refused is)
 
@@ -128,7 +128,8 @@ list-of-lines {fs} {is} d room l =
     ap (λ (k : ℕ). listFrom k t 0 l) (omega arith)
     ∙ lines-first d room (suc left) t 0 l whole
     ∙ ap (beforeAll is) (list-ends left t (0 + length t) (l + length fs) (omega arith))
-    ∙ all-before is
+    ∙ all-before is []
+    ∙ ap instructions (append-nil is)
 
 -- the first line that is refused is what the list is refused for, with its number, whatever comes behind it
 pub first-refused : {fs : List Fields} {is : List Instruction} → Decodes fs is → LinesRoom fs → (k : ℕ) (t : List ℕ) (p l : ℕ) {n q : ℕ} → Stands t p (printLines fs)

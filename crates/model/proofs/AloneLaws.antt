@@ -71,7 +71,8 @@ unfolding afterClaims reached
 mem-claims states [] x = omega arith
 mem-claims states (c ∷ cs) x = omega (arith, mem-claims (afterClaim states c) cs x, mem-claim states c x)
 
-all-sound-claims : (states : Context → State) (cs : List Claim) → AllSound states → AllSound (afterClaims states cs)
+-- claims leave every context with a sound state
+pub all-sound-claims : (states : Context → State) (cs : List Claim) → AllSound states → AllSound (afterClaims states cs)
 unfolding afterClaims
 all-sound-claims states [] k = k
 all-sound-claims states (c ∷ cs) k = all-sound-claims (afterClaim states c) cs (all-sound-after states c k)

@@ -15,7 +15,7 @@ use Rattle.model.specs.Constraints.{k1, k2, k3, k4, k5, k6, k7, k8, k9, 
 use Rattle.model.specs.Constraints.{k14, k15, k16, k17, k18, k19, k20, k21, k22, k23, k24, k25, k26}
 use Rattle.model.specs.Cycles.{Claim}
 use Rattle.model.specs.Promises.{ValidClaim}
-use Rattle.model.specs.State.{Context, State}
+use Rattle.model.specs.State.{Context, State, Sound}
 use Rattle.model.specs.Steps.{stampMoves, ctMoves}
 use Rattle.model.specs.Tests.{implies, bit}
 use Rattle.model.specs.Trace.{inBounds, lastOf, top, inRow, outRow, rowOf}
@@ -23,7 +23,6 @@ use Rattle.model.proofs.InMeets.{in10, in-row-meets}
 use Rattle.model.proofs.OutMeets.{out10, out-row-meets}
 use Rattle.model.proofs.ReadBack.{IsRow, is-row, last-of-row}
 use Rattle.model.proofs.RowTests.{Within, Beyond, used-met, within-met, beyond-met, stamp-stays, ct-next}
-use Rattle.model.proofs.StateLaws.{Sound}
 use Rattle.model.proofs.TestFacts.{implies-met, if-equal-met, if-unequal-met, _&_, bit-le, pick-under, equal-self}
 
 -- the row b is one after which a cycle with the stamp s can start

@@ -31,8 +31,12 @@ cycles-le i (x ∷ xs) =
     let rest = cycles-le (suc i) xs in
     pick-has (λ (cs : List Cycle). length cs ≤ suc (length xs)) (starts x) (λ e. omega arith) (λ e. omega arith)
 
+-- so there are no more claims than rows
+pub claims-le : (n : ℕ) (cs : List Claim) → length cs ≤ length (trace n cs)
+claims-le n cs = omega (arith, instructions-trace n cs, cycles-le 0 (trace n cs))
+
 claims-lt : (n : ℕ) (cs : List Claim) → Fits n cs → length cs < 256 ^ 4
-claims-lt n cs f = omega (arith, instructions-trace n cs, cycles-le 0 (trace n cs), f .rows)
+claims-lt n cs f = omega (arith, claims-le n cs, f .rows)
 
 module _ (n : ℕ) (cs : List Claim) (f : Fits n cs) where
   abbrev rows : List Cells

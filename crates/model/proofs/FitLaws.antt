@@ -17,12 +17,12 @@ use Rattle.model.specs.Columns.{Cells, Column, columns, fromComp, cellsI
 use Rattle.model.specs.Constraints.{inLast, outLast}
 use Rattle.model.specs.Cycles.{Claim}
 use Rattle.model.specs.Promises.{ValidClaim, Valid}
-use Rattle.model.specs.State.{Context, State, fresh}
+use Rattle.model.specs.State.{Context, State, Sound, fresh}
 use Rattle.model.specs.Tests.{pick}
 use Rattle.model.specs.Trace.{inBounds, lastOf, top, apart, above, lastWord, lastByte, square, inRows, reach, inRow}
 use Rattle.model.specs.Trace.{beyondEnd, outRow, rowOf, cycleOf, after, afterClaim, cyclesOf, trace}
 use Rattle.model.proofs.RowBytes.{AllFit}
-use Rattle.model.proofs.StateLaws.{Sound, AllSound, top-lt, sound-after, all-sound-fresh, all-sound-after}
+use Rattle.model.proofs.StateLaws.{AllSound, top-lt, sound-after, all-sound-fresh, all-sound-after}
 use Rattle.model.proofs.TestFacts.{pick-has}
 
 -- ---- the numbers of a row
@@ -45,7 +45,8 @@ cost-lt t h =
     let w : (t + (wordBytes - 1)) / wordBytes ≤ 2 ^ 19 = omega arith in
     omega (arith, mul-le-mul w w)
 
-paid-lt : {s : State} → Sound s → s .cost < 256 ^ 4
+-- what a sound state has paid fits 4 bytes
+pub paid-lt : {s : State} → Sound s → s .cost < 256 ^ 4
 paid-lt {s} k = omega (arith, cost-lt (s .mem) (k .mem))
 
 -- the numbers of an in-bounds cycle, whatever its two comparisons answer
@@ -65,7 +66,7 @@ last-byte-lt : (grown : Bool) (t : ℕ) → lastByte grown t < wordBytes
 unfolding lastByte
 last-byte-lt grown t = pick-lt grown (omega arith) (omega arith)
 
-square-lt : (grown : Bool) (t : ℕ) → t < bound → square grown t .q2 < 256 ^ 4
+pub square-lt : (grown : Bool) (t : ℕ) → t < bound → square grown t .q2 < 256 ^ 4
 unfolding square
 square-lt true t h = omega (arith, cost-split (words t), cost-lt t h)
 square-lt false t h = omega arith
@@ -92,8 +93,8 @@ unfolding Fit
 zeros-fit [] = tt
 zeros-fit (w ∷ ws) = (one-le-pow w 256 (omega arith), zeros-fit ws)
 
--- the state that an in-bounds claim leaves, by its comparison alone
-sound-reached : (s : State) (c : Claim) → inBounds c ≡ true → Sound s → Sound (reach (ltb (s .mem) (top c)) (top c) s)
+-- the state that an in-bounds claim leaves, by its comparison alone, is sound
+pub sound-reached : (s : State) (c : Claim) → inBounds c ≡ true → Sound s → Sound (reach (ltb (s .mem) (top c)) (top c) s)
 unfolding after
 sound-reached s c e k = rw e at (sound-after s c k)
 

@@ -15,12 +15,12 @@ use Rattle.model.specs.Columns.{Cells}
 use Rattle.model.specs.Constraints.{inLast, auxLift, quotients, stays, grows}
 use Rattle.model.specs.Constraints.{k10, k11, k12, k13, k14, k15, k16, k17, k18, k19, k20, k21, k22, k23}
 use Rattle.model.specs.Cycles.{Claim}
-use Rattle.model.specs.State.{State}
+use Rattle.model.specs.State.{State, Sound}
 use Rattle.model.specs.Tests.{pick, bit, zeros, isDifference, sumsUp}
 use Rattle.model.specs.Trace.{inBounds, top, apart, above, lastWord, lastByte, square, inRows, reach, inRow}
 use Rattle.model.proofs.FitLaws.{apart-lt, above-lt, last-word-lt}
 use Rattle.model.proofs.RowTests.{Within, sums-met}
-use Rattle.model.proofs.StateLaws.{Sound, top-lt, paid-more}
+use Rattle.model.proofs.StateLaws.{top-lt, paid-more}
 use Rattle.model.proofs.TestFacts.{implies-met, if-equal-met, _&_, eqb-self, bit-le, difference-met}
 
 -- ---- the arithmetic, over plain numbers

@@ -29,7 +29,8 @@ use Rattle.model.proofs.ReadBack.{claim-of-row, last-of-row, instructio
 use Rattle.model.proofs.RowBytes.{length-rows, row-of-rows, length-bytes, bytes-part}
 use Rattle.model.proofs.TableOf.{getD-table}
 
-valid-take : (k : ℕ) (cs : List Claim) → Valid cs → Valid (take k cs)
+-- the first of valid claims are valid
+pub valid-take : (k : ℕ) (cs : List Claim) → Valid cs → Valid (take k cs)
 valid-take zero cs v = tt
 valid-take (suc k) [] v = tt
 valid-take (suc k) (c ∷ cs) v = (v .0, valid-take k cs (v .1))

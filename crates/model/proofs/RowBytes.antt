@@ -2,9 +2,9 @@
 use Prim.Native.Nat.{ℕ, zero, suc, _+_, _*_, _/_, _%_, _<_, _≤_}
 use mathlib.Core.List.{List, [], _∷_, _++_, append-assoc, append-nil}
 use mathlib.Core.Path.{_≡_, refl, sym, _∙_, ap}
-use native.Mathlib.Nat.{le-of-suc-le-suc, not-suc-le-zero}
+use native.Mathlib.Nat.{zero-add, le-of-suc-le-suc, not-suc-le-zero}
 use native.Mathlib.Omega.{arith}
-use lib.ListN.{length, take, drop, length-append, length-drop, take-append-drop}
+use lib.ListN.{length, take, drop, replicate, length-append, length-drop, take-append-drop, replicate-append-replicate}
 use lib.Seq.{take-add, take-all, split-at, take-at, drop-at, length-take-le}
 use Rattle.number.specs.Cells.{encode, decode, Fit}
 use Rattle.number.specs.Num.{be, AllBytes}
@@ -48,6 +48,14 @@ unfolding bytesOf
 bytes-append [] ys = refl
 bytes-append (x ∷ xs) ys = rw (bytes-append xs ys, append-assoc)
 
+-- those of empty rows are zeros
+pub empty-bytes : (n : ℕ) → bytesOf (replicate n emptyRow) ≡ replicate (n * rowBytes) 0
+unfolding bytesOf encode be
+empty-bytes zero = refl
+empty-bytes (suc n) =
+    let more : suc n * rowBytes ≡ rowBytes + n * rowBytes = omega arith in
+    rw (empty-bytes n, more) (replicate-append-replicate rowBytes (n * rowBytes) 0)
+
 all-bytes-append : (l k : List ℕ) → AllBytes l → AllBytes k → AllBytes (l ++ k)
 all-bytes-append [] k a b i h = b i h
 all-bytes-append (x ∷ l) k a b zero h = a 0 (omega arith)
@@ -88,20 +96,34 @@ row-at : (l k : List ℕ) (i : ℕ) (x : Cells) → length l ≡ i * rowBytes �
 unfolding rowAt
 row-at l k i x e f = rw (← e) (ap ofList (decode-encode widths (cellsIn columns x) l k f))
 
+-- rows that fit, from row p on and before any other bytes, are read there
+pub row-between : (l k : List ℕ) (p : ℕ) (rows : List Cells) (i : ℕ) → length l ≡ p * rowBytes → AllFit rows → i < length rows
+    → rowAt (l ++ (bytesOf rows ++ k)) (p + i) ≡ rowIn rows i
+unfolding bytesOf
+row-between l k p rows i e f h =
+    let x : Cells = rowIn rows i in
+    let first : List ℕ = bytesOf (take i rows) in
+    let parts = ap bytesOf (split-at rows i emptyRow h) ∙ bytes-append (take i rows) (x ∷ drop (suc i) rows) in
+    let place : length (l ++ first) ≡ (p + i) * rowBytes = omega (arith, length-append l first, length-first rows i (omega arith)) in
+    rw (parts, append-assoc first, append-assoc (encode widths (cellsIn columns x)), ← append-assoc l first)
+    (row-at (l ++ first) (bytesOf (drop (suc i) rows) ++ k) (p + i) x place (fit-at rows i f h))
+
 -- each row that fits is read back from the bytes
 pub row-back : (rows : List Cells) (i : ℕ) → AllFit rows → i < length rows → rowAt (bytesOf rows) i ≡ rowIn rows i
-unfolding bytesOf
-row-back rows i f h =
-    let x : Cells = rowIn rows i in
-    let e = ap bytesOf (split-at rows i emptyRow h) ∙ bytes-append (take i rows) (x ∷ drop (suc i) rows) in
-    rw e (row-at (bytesOf (take i rows)) (bytesOf (drop (suc i) rows)) i x (length-first rows i (omega arith)) (fit-at rows i f h))
+row-back rows i f h = rw (append-nil, zero-add) at (row-between [] [] 0 rows i (omega arith) f h)
 
--- and so are all of them
+-- rows that fit, before any other bytes, are the first rows there
+pub rows-first : (rows : List Cells) (k : List ℕ) → AllFit rows → table (length rows) (rowAt (bytesOf rows ++ k)) ≡ rows
+rows-first rows k f =
+    table-path (length rows) (rowAt (bytesOf rows ++ k)) (λ i. rowIn rows i) (λ i h. rw zero-add at (row-between [] k 0 rows i (omega arith) f h))
+    ∙ table-of-list rows emptyRow
+
+-- and all of them, where no other bytes are
 pub rows-back : (rows : List Cells) → AllFit rows → rowsOf (bytesOf rows) ≡ rows
 unfolding rowsOf
 rows-back rows f =
     let n : length (bytesOf rows) / rowBytes ≡ length rows = omega (arith, length-bytes rows) in
-    rw n (table-path (length rows) (rowAt (bytesOf rows)) (λ i. rowIn rows i) (λ i h. row-back rows i f h) ∙ table-of-list rows emptyRow)
+    rw n (rw append-nil at (rows-first rows [] f))
 
 -- ---- bytes that were read as rows are written back
 

@@ -10,16 +10,11 @@ use Rattle.number.proofs.TestLaws.{both}
 use Rattle.gas.specs.Gas.{words, cost}
 use Rattle.gas.proofs.GasLaws.{cost-monotone}
 use Rattle.model.specs.Cycles.{Claim}
-use Rattle.model.specs.State.{Context, State, start, fresh, put, sameContext}
+use Rattle.model.specs.State.{Context, State, Sound, start, fresh, put, sameContext}
 use Rattle.model.specs.Trace.{inBounds, top, reach, after, afterClaim}
 use Rattle.model.proofs.TestFacts.{pick-has}
 
--- the bytes reached are below the bound, and the cost is that of their words
-pub record Sound (s : State) : Type 0 where
-  pub mem : s .mem < bound
-  pub cost : s .cost ≡ cost (words (s .mem))
-
--- that of every context is
+-- the state of every context is sound
 abbrev pub AllSound : (Context → State) → Type 0
 AllSound states = (x : Context) → Sound (states x)
 

@@ -1,7 +1,10 @@
 -- A context, its state, and the state of every context.
-use Prim.Native.Nat.{ℕ}
+use Prim.Native.Nat.{ℕ, _<_}
 use mathlib.Core.Bool.{Bool}
+use mathlib.Core.Path.{_≡_}
 use lib.Dec.{eqb}
+use Rattle.number.specs.Whole.{bound}
+use Rattle.gas.specs.Gas.{words, cost}
 use Rattle.model.specs.Columns.{Cells}
 use Rattle.model.specs.Tests.{pick}
 
@@ -21,6 +24,11 @@ contextOf x = record { cn = x .cn }
 pub record State : Type 0 where
   pub mem : ℕ
   pub cost : ℕ
+
+-- a state that claims leave behind: the bytes reached are below the bound, and the cost is that of their words
+pub record Sound (s : State) : Type 0 where
+  pub mem : s .mem < bound
+  pub cost : s .cost ≡ cost (words (s .mem))
 
 -- that of a context without an earlier instruction
 abbrev pub start : State

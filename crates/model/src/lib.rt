@@ -17,6 +17,9 @@ pub const IN_ROWS: usize = IN_LAST as usize + 1;
 
 pub const OUT_ROWS: usize = OUT_LAST as usize + 1;
 
+// What AUX1 of the row before a cycle's last is above AUX1 of the last.
+pub const AUX_LIFT: u8 = 224;
+
 // How many bytes a row has. A crate is checked by its functions and this one has no other work: it is here for the definitions and the laws.
 pub fn row_bytes() -> usize
     ensures { λ r. ⌜ r ≡ rowBytes ⌝ }

@@ -8,6 +8,8 @@ use Rattle.claim.specs.Claims.{claimOf}
 use Rattle.claim.specs.Instruction.{Range, Touched, nothing, one, two}
 use Rattle.list.specs.List as list
 use Rattle.list.specs.List.{Next, nextLine}
+use Rattle.filler.specs.Answer as filler
+use Rattle.filler.specs.Fill.{outcome}
 use Rattle.checker.specs.Answer.{Numbers, numbers, told}
 
 -- refused, line, 0, accepted, instructions, oob, empty, row, constraint
@@ -18,6 +20,16 @@ checkList x =
 -- what `mxp_check` writes for these bytes
 abbrev pub checkOut : List ℕ → List ℕ
 checkOut l = checkList (numbers (told (verdict l)))
+
+-- ---- a filled buffer
+
+-- refused, line, 0, rows
+abbrev pub fillList : filler.Numbers → List ℕ
+fillList x = x .refused ∷ x .line ∷ 0 ∷ x .rows ∷ []
+
+-- what `mxp_fill` writes for this list, so many empty rows and a buffer of so many bytes
+abbrev pub fillOut : (list : List ℕ) → (empty room : ℕ) → List ℕ
+fillOut list empty room = fillList (filler.numbers (filler.told (outcome list empty room)))
 
 -- ---- the next line of a list
 

@@ -1,13 +1,16 @@
 // The stage's calls for programs in C and Rust, by `rt staticlib mxp`: numbers and byte slices alone, an answer for every input.
 // A slice is a pointer and a length. The numbers of an answer are written to an array that the caller lends; what document 01 leaves open is 0.
 ghost use mathlib.Core.Path.{_≡_};
-ghost use Rattle.mxp.specs.Out.{checkOut, nextOut};
+ghost use lib.ListN.{length};
+ghost use Rattle.filler.specs.Fill.{outcome, bufferAfter};
+ghost use Rattle.mxp.specs.Out.{checkOut, fillOut, nextOut};
 ghost use Rattle.mxp.specs.Plain.{noRange, spread, instructionOut};
 use checker::Verdict;
 use claim::claim::claim_of;
 use claim::instruction::Instruction;
 use claim::instruction::Range;
 use claim::instruction::Touched;
+use filler::Filled;
 use list::Next;
 use number::long::small;
 
@@ -21,6 +24,20 @@ pub extern "C" fn mxp_check(trace: &[u8], out: &mut [u64; 9])
         Verdict::Accepted(c) => *out = [0, 0, 0, 1, c.instructions, c.oob, c.empty, 0, 0],
         Verdict::Broken { row, constraint } => *out = [0, 0, 0, 0, 0, 0, 0, row, constraint],
         Verdict::Refused(r) => *out = [r.number, r.line, 0, 0, 0, 0, 0, 0, 0],
+    }
+}
+
+// Fills a buffer with the trace of a list after so many empty rows. Its answer: refused, line, 0, rows. The bytes behind the rows stay, and on a refusal
+// all of them.
+#[no_mangle]
+pub extern "C" fn mxp_fill(list: &[u8], empty: u64, buffer: &mut [u8], out: &mut [u64; 4])
+    ensures { λ _. ⌜ now (out .exit) ≡ fillOut (now (list .entry)) empty (length (now (buffer .entry))) ⌝ }
+    ensures { λ _. ⌜ now (buffer .exit) ≡ bufferAfter (outcome (now (list .entry)) empty (length (now (buffer .entry)))) (now (buffer .entry)) ⌝ }
+{
+    let filled = filler::fill(list, empty, buffer);
+    match filled {
+        Filled::Rows(n) => *out = [0, 0, 0, n],
+        Filled::Refused(r) => *out = [r.number, r.line, 0, 0],
     }
 }
 

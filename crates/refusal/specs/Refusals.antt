@@ -2,6 +2,13 @@
 use Prim.Native.Nat.{ℕ}
 use Rattle.refusal.specs.declared.Refusal.{Refusal}
 
+-- the refusals of a list before it is read: it is too long, or the empty rows are 0
+abbrev pub listTooLong : ℕ
+listTooLong = 1
+
+abbrev pub noEmptyRow : ℕ
+noEmptyRow = 2
+
 -- the refusals of a line: it is not of the form, its cn is 0, its opcode is not in the table, a field that the opcode has no use for is not 0
 abbrev pub notOfForm : ℕ
 notOfForm = 3
@@ -14,6 +21,13 @@ notListed = 5
 
 abbrev pub unusedField : ℕ
 unusedField = 6
+
+-- the refusals of its trace: it has more rows than a trace may have, or the buffer is short
+abbrev pub fillTooLong : ℕ
+fillTooLong = 7
+
+abbrev pub bufferShort : ℕ
+bufferShort = 8
 
 -- 3 to 6 give the line from 1; others give line 0.
 abbrev pub inLine : (number line : ℕ) → Refusal

@@ -1,12 +1,26 @@
 // Why a call refuses its input: document 01's number, and the line of the list where it has one. One function for each refusal.
 ghost use mathlib.Core.Path.{_≡_};
 ghost use Rattle.model.specs.Verdict.{badLength, tooManyRows};
-ghost use Rattle.refusal.specs.Refusals.{lineless, inLine, notOfForm, cnZero, notListed, unusedField};
+ghost use Rattle.refusal.specs.Refusals.{lineless, inLine, listTooLong, noEmptyRow, notOfForm, cnZero, notListed, unusedField, fillTooLong, bufferShort};
 
 // Its number, and the line from 1; line 0 where it is of no line.
 pub struct Refusal {
     pub number: u64,
     pub line: u64,
+}
+
+// The list has more bytes than a list may have.
+pub fn list_too_long() -> Refusal
+    ensures { λ r. ⌜ r ≡ lineless listTooLong ⌝ }
+{
+    Refusal { number: 1, line: 0 }
+}
+
+// No empty row is asked for.
+pub fn no_empty_row() -> Refusal
+    ensures { λ r. ⌜ r ≡ lineless noEmptyRow ⌝ }
+{
+    Refusal { number: 2, line: 0 }
 }
 
 // The line is not of the form.
@@ -35,6 +49,20 @@ pub fn unused_field(line: u64) -> Refusal
     ensures { λ r. ⌜ r ≡ inLine unusedField line ⌝ }
 {
     Refusal { number: 6, line }
+}
+
+// The list's trace has more rows than a trace may have.
+pub fn fill_too_long() -> Refusal
+    ensures { λ r. ⌜ r ≡ lineless fillTooLong ⌝ }
+{
+    Refusal { number: 7, line: 0 }
+}
+
+// The buffer is too short for the list's trace.
+pub fn buffer_short() -> Refusal
+    ensures { λ r. ⌜ r ≡ lineless bufferShort ⌝ }
+{
+    Refusal { number: 8, line: 0 }
 }
 
 // The trace has length 0 or is not a multiple of a row.

@@ -1,16 +1,18 @@
 -- A row that is written and a row that is read: reading gives what was written, writing what was read changes nothing, and the other rows stay.
 use Prim.Native.Nat.{ℕ, zero, suc, _+_, _*_, _/_, _<_, _≤_}
-use mathlib.Core.List.{List, [], _∷_, _++_, append-assoc}
+use mathlib.Core.List.{List, [], _∷_, _++_, append-assoc, append-nil}
 use mathlib.Core.Logic.{_≢_}
 use mathlib.Core.Path.{_≡_, refl, _∙_, ap}
+use native.Mathlib.Nat.{add-zero}
 use native.Mathlib.Omega.{arith}
 use lib.ListN.{length, getD, set, take, drop, length-drop, take-append-drop}
 use lib.Seq.{sets, sets-eq, length-sets, length-take-le, getD-set-other, drop-drop}
 use Rattle.number.specs.Cells.{total, encode, decode, Fit}
 use Rattle.number.specs.Num.{num, AllBytes}
-use Rattle.number.proofs.CellLaws.{length-encode, encode-decode, decode-encode}
-use Rattle.model.specs.Columns.{Cells, columns, cellsIn, widths, rowBytes, ofList, rowAt}
-use Rattle.model.proofs.RowBytes.{cells-row}
+use Rattle.number.proofs.CellLaws.{length-encode, encode-decode}
+use Rattle.number.proofs.StoreLaws.{sets-append}
+use Rattle.model.specs.Columns.{Cells, columns, cellsIn, widths, rowBytes, ofList, rowAt, bytesOf, rowIn}
+use Rattle.model.proofs.RowBytes.{AllFit, cells-row, length-bytes, bytes-append, row-between}
 use Rattle.row.specs.Plain.{plain}
 use Rattle.row.specs.declared.cells.Row.{Row}
 
@@ -22,15 +24,17 @@ written l i x = sets l (i * rowBytes) (encode widths (cellsIn columns x))
 sets-parts : (l : List ℕ) (p n : ℕ) (vs : List ℕ) → length vs ≡ n → p + n ≤ length l → sets l p vs ≡ take p l ++ (vs ++ drop (p + n) l)
 sets-parts l p n vs e h = sets-eq vs l p (omega arith) ∙ rw (append-assoc, e)
 
+-- rows that fit, once they are written from row p on, are read there
+pub read-rows : (l : List ℕ) (p : ℕ) (xs : List Cells) → AllFit xs → (p + length xs) * rowBytes ≤ length l
+    → (j : ℕ) → j < length xs → rowAt (sets l (p * rowBytes) (bytesOf xs)) (p + j) ≡ rowIn xs j
+read-rows l p xs f h j k =
+    let s = sets-parts l (p * rowBytes) (length xs * rowBytes) (bytesOf xs) (length-bytes xs) (omega arith) in
+    rw s (row-between (take (p * rowBytes) l) _ p xs j (length-take-le (p * rowBytes) l (omega arith)) f k)
+
 -- the row that was written is read back
 pub read-written : (l : List ℕ) (i : ℕ) (x : Cells) → Fit widths (cellsIn columns x) → suc i * rowBytes ≤ length l → rowAt (written l i x) i ≡ x
-unfolding rowAt
-read-written l i x f h =
-    let vs : List ℕ = cellsIn columns x in
-    let p : ℕ = i * rowBytes in
-    let s = sets-parts l p rowBytes (encode widths vs) (length-encode widths vs) (omega arith) in
-    let n : length (take p l) ≡ p = length-take-le p l (omega arith) in
-    rw s (ap ofList (rw n at (decode-encode widths vs (take p l) (drop (p + rowBytes) l) f)))
+unfolding bytesOf
+read-written l i x f h = rw (append-nil, add-zero) at (read-rows l i (x ∷ []) (f, tt) (omega arith) 0 (omega arith))
 
 -- a part of a list, stored where it stands, changes nothing
 sets-same : (l : List ℕ) (p n : ℕ) → p + n ≤ length l → sets l p (take n (drop p l)) ≡ l
@@ -42,6 +46,22 @@ sets-same l p n h =
 pub write-read : (l : List ℕ) (i : ℕ) → AllBytes l → suc i * rowBytes ≤ length l → written l i (rowAt l i) ≡ l
 write-read l i b h =
     rw (cells-row l i, encode-decode widths l (i * rowBytes) b (omega arith)) (sets-same l (i * rowBytes) rowBytes (omega arith))
+
+-- ---- rows one after the other
+
+-- rows from row i on, and others behind them: they are rows from row i on
+pub write-more : {m k : List ℕ} (l : List ℕ) (i n : ℕ) (xs ys : List Cells) → length xs ≡ n → m ≡ sets l (i * rowBytes) (bytesOf xs)
+    → k ≡ sets m ((i + n) * rowBytes) (bytesOf ys) → k ≡ sets l (i * rowBytes) (bytesOf (xs ++ ys))
+write-more l i n xs ys e f g =
+    let there : length (bytesOf xs) ≡ n * rowBytes = length-bytes xs ∙ ap (λ (j : ℕ). j * rowBytes) e in
+    let place : (i + n) * rowBytes ≡ i * rowBytes + length (bytesOf xs) = omega (arith, there) in
+    g ∙ rw (place, f, bytes-append) (sets-append l (i * rowBytes) (bytesOf xs) (bytesOf ys))
+
+-- and one row behind them
+pub write-next : {m k : List ℕ} (l : List ℕ) (i n : ℕ) (xs : List Cells) (x : Cells) → length xs ≡ n
+    → m ≡ sets l (i * rowBytes) (bytesOf xs) → k ≡ written m (i + n) x → k ≡ sets l (i * rowBytes) (bytesOf (xs ++ (x ∷ [])))
+unfolding bytesOf
+write-next l i n xs x e f g = write-more l i n xs (x ∷ []) e f (g ∙ rw append-nil)
 
 -- ---- the other bytes
 

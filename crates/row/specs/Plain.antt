@@ -66,41 +66,51 @@ storesFrom (c ∷ cs) x l p o = storesFrom cs x (sets l (p + o) (be (c .width) (
 abbrev pub partStored : (k n : ℕ) → Cells → List ℕ → ℕ → List ℕ
 partStored k n x l p = storesFrom (take n (drop k columns)) x l p (total (take k widths))
 
--- x is that part of the row whose first byte is at p
-pub record HeadAt (l : List ℕ) (p : ℕ) (x : Head) : Type 0 where
-  pub stamp : x .stamp ≡ from l p .stamp
-  pub cn : x .cn ≡ from l p .cn
-  pub ooob : x .ooob ≡ from l p .ooob
-  pub ct : x .ct ≡ from l p .ct
-  pub end1 : val (x .end1) ≡ from l p .end1
-  pub end2 : val (x .end2) ≡ from l p .end2
-  pub byte1 : x .byte1 ≡ from l p .byte1
-  pub byte2 : x .byte2 ≡ from l p .byte2
-  pub acc1 : val (x .acc1) ≡ from l p .acc1
-  pub acc2 : x .acc2 ≡ from l p .acc2
+-- x is that part of the row y
+pub record HeadOf (y : Cells) (x : Head) : Type 0 where
+  pub stamp : x .stamp ≡ y .stamp
+  pub cn : x .cn ≡ y .cn
+  pub ooob : x .ooob ≡ y .ooob
+  pub ct : x .ct ≡ y .ct
+  pub end1 : val (x .end1) ≡ y .end1
+  pub end2 : val (x .end2) ≡ y .end2
+  pub byte1 : x .byte1 ≡ y .byte1
+  pub byte2 : x .byte2 ≡ y .byte2
+  pub acc1 : val (x .acc1) ≡ y .acc1
+  pub acc2 : x .acc2 ≡ y .acc2
+
+-- x is that part of the row y
+pub record BodyOf (y : Cells) (x : Body) : Type 0 where
+  pub mem : x .mem ≡ y .mem
+  pub memn : x .memn ≡ y .memn
+  pub cost : x .cost ≡ y .cost
+  pub costn : x .costn ≡ y .costn
+  pub gas : x .gas ≡ y .gas
+  pub comp : x .comp ≡ y .comp
+  pub dbyte : x .dbyte ≡ y .dbyte
+  pub dacc : x .dacc ≡ y .dacc
+  pub endmax : x .endmax ≡ y .endmax
+  pub flag : x .flag ≡ y .flag
+
+-- x is that part of the row y
+pub record TailOf (y : Cells) (x : Tail) : Type 0 where
+  pub ebyte : x .ebyte ≡ y .ebyte
+  pub eacc : x .eacc ≡ y .eacc
+  pub q1 : x .q1 ≡ y .q1
+  pub q1byte : x .q1byte ≡ y .q1byte
+  pub q1acc : x .q1acc ≡ y .q1acc
+  pub q2 : x .q2 ≡ y .q2
+  pub q2byte : x .q2byte ≡ y .q2byte
+  pub q2acc : x .q2acc ≡ y .q2acc
+  pub aux1 : x .aux1 ≡ y .aux1
+  pub aux2 : x .aux2 ≡ y .aux2
 
 -- x is that part of the row whose first byte is at p
-pub record BodyAt (l : List ℕ) (p : ℕ) (x : Body) : Type 0 where
-  pub mem : x .mem ≡ from l p .mem
-  pub memn : x .memn ≡ from l p .memn
-  pub cost : x .cost ≡ from l p .cost
-  pub costn : x .costn ≡ from l p .costn
-  pub gas : x .gas ≡ from l p .gas
-  pub comp : x .comp ≡ from l p .comp
-  pub dbyte : x .dbyte ≡ from l p .dbyte
-  pub dacc : x .dacc ≡ from l p .dacc
-  pub endmax : x .endmax ≡ from l p .endmax
-  pub flag : x .flag ≡ from l p .flag
+abbrev pub HeadAt : List ℕ → ℕ → Head → Type 0
+HeadAt l p x = HeadOf (from l p) x
 
--- x is that part of the row whose first byte is at p
-pub record TailAt (l : List ℕ) (p : ℕ) (x : Tail) : Type 0 where
-  pub ebyte : x .ebyte ≡ from l p .ebyte
-  pub eacc : x .eacc ≡ from l p .eacc
-  pub q1 : x .q1 ≡ from l p .q1
-  pub q1byte : x .q1byte ≡ from l p .q1byte
-  pub q1acc : x .q1acc ≡ from l p .q1acc
-  pub q2 : x .q2 ≡ from l p .q2
-  pub q2byte : x .q2byte ≡ from l p .q2byte
-  pub q2acc : x .q2acc ≡ from l p .q2acc
-  pub aux1 : x .aux1 ≡ from l p .aux1
-  pub aux2 : x .aux2 ≡ from l p .aux2
+abbrev pub BodyAt : List ℕ → ℕ → Body → Type 0
+BodyAt l p x = BodyOf (from l p) x
+
+abbrev pub TailAt : List ℕ → ℕ → Tail → Type 0
+TailAt l p x = TailOf (from l p) x

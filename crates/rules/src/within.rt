@@ -20,12 +20,13 @@ use crate::words::wide;
 use gas::SQUARE_DIVISOR;
 use gas::WORD_BYTES;
 use gas::WORD_GAS;
+use model::AUX_LIFT;
 use model::IN_LAST;
 use number::wide::same;
 use row::cells::Row;
 
 // What is added to AUX1, so that only a number below 32 leaves a byte: 256-32.
-const AUX_LIFT: u64 = 224;
+const LIFT: u64 = AUX_LIFT as u64;
 
 // What the first of four bytes counts, 256^3.
 const FIRST_OF_FOUR: u64 = BASE * BASE * BASE;
@@ -136,7 +137,7 @@ pub fn rule21(b: Row, x: Row) -> bool
     let aux1 = byte(x.tail.aux1);
     let rounded = (WORD_BYTES as u64) * wide(x.tail.q1) + aux1;
     let holds = (x.tail.q1acc == x.tail.q1)
-        & (byte(b.tail.aux1) == aux1 + AUX_LIFT)
+        & (byte(b.tail.aux1) == aux1 + LIFT)
         & is_difference(rounded, wide(x.body.endmax), 1);
     implies((x.head.ct == IN_LAST) & (x.body.flag == 1), holds)
 }

@@ -1,2 +1,3 @@
 pub mod SearchLaws
 pub mod LookLaws
+pub mod AfterLaws

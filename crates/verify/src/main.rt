@@ -1,13 +1,12 @@
 // The program `verify`: reads a trace from standard input and prints its verdict in one line. What is printed for the bytes read is promised by
 // `put_report`; that it reads and writes them is tested.
-ghost use lib.ListN.{length};
 ghost use Rattle.text.specs.Line.{Front};
 ghost use Rattle.checker.specs.declared.Verdict.the-variants.{Accepted, Broken};
 ghost use Rattle.verify.specs.Report.{line, report};
-ghost use Rattle.verify.specs.Input.{within};
 use checker::Counts;
 use checker::Verdict;
-use libc::STDIN_FILENO;
+use input::Input;
+use input::read_input;
 use libc::STDOUT_FILENO;
 use text::put_bytes;
 use text::put_field;
@@ -19,32 +18,6 @@ const INPUT_BYTES: usize = 65536;
 
 // Room for a line.
 const LINE_BYTES: usize = 128;
-
-// What reading comes to: how many bytes of the input stand at the start of the buffer, or that a read failed.
-pub enum Input {
-    Bytes(usize),
-    Failed,
-}
-
-// Reads standard input into buf until buf is full, the input ends or a read fails.
-fn read_input(buf: &mut [u8]) -> Input
-    ensures { λ r. ⌜ within r (length (now (buf .exit))) ⌝ }
-{
-    let mut done: usize = 0;
-    while done < buf.len() {
-        let rest = &mut buf[done..];
-        let got = libc::read(STDIN_FILENO, rest);
-        if got < 0 {
-            return Input::Failed;
-        }
-        let n = io::count(got, rest);
-        if n == 0 {
-            return Input::Bytes(done);
-        }
-        done += n;
-    }
-    Input::Bytes(done)
-}
 
 // The line of an accepted trace, at the start of out: a place after each field.
 fn put_accepted(out: &mut [u8; LINE_BYTES], c: Counts) -> usize

@@ -1,7 +1,8 @@
 //! Cycles that are coherent in all but one thing, to be put in the place of right ones. Where a difference is below 0,
 //! its cells hold what a program would find that let numbers wrap, or stop at 0.
 
-use reference::make::{Price, make_cycle, pay};
+use reference::make::{make_cycle, pay};
+use reference::price::Price;
 use reference::row::Column::*;
 use reference::sum::{self, Sum, sum_up};
 use reference::{BOUND, Claim, Column, Row, State, Wide};

@@ -1,7 +1,7 @@
 //! The library under test: its calls, and the numbers in which they answer.
 
 use reference::list::{self, Range};
-use reference::{Verdict, Wide};
+use reference::{Refusal, Verdict, Wide};
 
 /// Refused, line, 0, accepted, instructions, oob, empty, row, constraint; what is not meant is 0.
 pub type Answer = [u64; 9];
@@ -10,9 +10,13 @@ pub type Answer = [u64; 9];
 /// each as its top byte and two halves. What is not meant is 0.
 pub type LineAnswer = [u64; 21];
 
+/// Refused, line, 0, rows; what is not meant is 0.
+pub type FillAnswer = [u64; 4];
+
 unsafe extern "C" {
     fn mxp_check(trace: *const u8, trace_len: usize, out: *mut Answer);
     fn mxp_next_line(list: *const u8, list_len: usize, at: usize, line: u64, out: *mut LineAnswer);
+    fn mxp_fill(list: *const u8, list_len: usize, empty: u64, buffer: *mut u8, buffer_len: usize, out: *mut FillAnswer);
 }
 
 /// Calls the checker. The trace is lent as one that might change, so that a write into it is seen afterwards and not
@@ -26,6 +30,14 @@ pub fn check(trace: &mut [u8], out: &mut Answer) {
 pub fn next_line(list: &mut [u8], at: usize, line: u64, out: &mut LineAnswer) {
     // SAFETY: the pointer and the length are those of one slice, `out` is an answer's room, and both outlive the call.
     unsafe { mxp_next_line(list.as_mut_ptr().cast_const(), list.len(), at, line, out) }
+}
+
+/// Calls the filler. The list is lent as one that might change, as a trace is.
+pub fn fill(list: &mut [u8], empty_rows: u64, buffer: &mut [u8], out: &mut FillAnswer) {
+    let (list, list_len) = (list.as_mut_ptr().cast_const(), list.len());
+    // SAFETY: each pointer and length are those of one slice, `out` is an answer's room, no two of them overlap, and
+    // all outlive the call.
+    unsafe { mxp_fill(list, list_len, empty_rows, buffer.as_mut_ptr(), buffer.len(), out) }
 }
 
 /// A verdict as the library answers it.
@@ -45,6 +57,14 @@ pub fn line_answer(answer: &list::Answer) -> LineAnswer {
     let head = [refused.into(), line, stop as u64, next as u64, cn.into(), op.into(), ranges.into()];
     let parts = [&head[..], &halves_of(range1), &halves_of(range2), &parts_of(end1), &parts_of(end2)].concat();
     parts.try_into().expect("there are 21 numbers")
+}
+
+/// An answer of the filler as the library gives it.
+pub fn fill_answer(answer: Result<usize, Refusal>) -> FillAnswer {
+    match answer {
+        Ok(rows) => [0, 0, 0, rows as u64],
+        Err(Refusal { number, line }) => [number.into(), line, 0, 0],
+    }
 }
 
 fn halves_of(Range { at, len }: Range) -> [u64; 4] {

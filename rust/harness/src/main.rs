@@ -1,8 +1,10 @@
-//! `full`: compares the library with the reference on traces and on lists, at full size, on the vectors and at random,
-//! then measures both. It ends with a message and another status than 0 at the first difference.
+//! `full`: compares the library with the reference, its checker on traces, its list reader and its filler on lists, at
+//! full size, on the vectors and at random, then measures both. It ends with a message and another status than 0 at the
+//! first difference.
 
 mod compare;
 mod damage;
+mod fill;
 mod forgery;
 mod full_size;
 mod library;
@@ -40,6 +42,13 @@ fn run(options: &Options) -> Outcome<()> {
     println!("list sweeps: {} lists agree", list::sweeps::compare_all()?);
     println!("full-size lists: {} lists agree", list::full_size::compare_all()?);
     println!("random lists: {}", list::trials::compare_all(options.lists, options.seed)?);
+    let list_folders = [options.list_vectors.as_path(), &options.account_vectors];
+    println!("fill vectors: {} calls agree", fill::vector_files::compare_all(list_folders)?);
+    println!("fill sweeps: {} calls agree", fill::sweeps::compare_all()?);
+    println!("fill refusals: {} calls as meant", fill::refusals::compare_all()?);
+    println!("full-size fills: {} calls as meant", fill::full_size::compare_all()?);
+    println!("random fills: {}", fill::trials::compare_all(options.lists, options.seed)?);
     speed::measure_all()?;
-    list::speed::measure_all()
+    list::speed::measure_all()?;
+    fill::speed::measure_all()
 }

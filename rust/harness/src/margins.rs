@@ -38,10 +38,17 @@ impl Lent {
 
     /// Nothing was written into what is lent, or beside it.
     pub fn untouched(&self) -> Outcome<()> {
-        if self.room == self.as_it_was {
+        self.untouched_from(0)
+    }
+
+    /// Nothing was written into what is lent from a place on, or beside it.
+    pub fn untouched_from(&self, place: usize) -> Outcome<()> {
+        let may_change = self.lent.start..self.lent.start + place;
+        let stays = |part: Range<usize>| self.room[part.clone()] == self.as_it_was[part];
+        if stays(0..may_change.start) && stays(may_change.end..self.room.len()) {
             Ok(())
         } else {
-            Err("the library wrote into what it was lent or beside it".into())
+            Err("the library wrote where it must not, into what it was lent or beside it".into())
         }
     }
 }

@@ -9,7 +9,7 @@ pub const DEFAULT_TRACES: u64 = 30_000;
 /// How many random lists there are if nothing else is said.
 pub const DEFAULT_LISTS: u64 = 100_000;
 
-const USAGE: &str = "usage: full TRACE_VECTORS LIST_VECTORS [--traces N] [--lists N] [--seed S]";
+const USAGE: &str = "usage: full TRACE_VECTORS LIST_VECTORS ACCOUNT_VECTORS [--traces N] [--lists N] [--seed S]";
 
 /// What to compare.
 pub struct Options {
@@ -17,9 +17,11 @@ pub struct Options {
     pub trace_vectors: PathBuf,
     /// The folder of the vectors that are lists.
     pub list_vectors: PathBuf,
+    /// The folder of the vectors of `account`, which are lists too.
+    pub account_vectors: PathBuf,
     /// How many random traces.
     pub traces: u64,
-    /// How many random lists.
+    /// How many random lists to read, and how many to fill traces from.
     pub lists: u64,
     /// The seed of the first trace and of the first list; the next has the next.
     pub seed: u64,
@@ -28,10 +30,10 @@ pub struct Options {
 impl Options {
     /// The options that the words of a command line say.
     pub fn read(mut words: impl Iterator<Item = String>) -> Outcome<Options> {
-        let trace_vectors = PathBuf::from(words.next().ok_or(USAGE)?);
-        let list_vectors = PathBuf::from(words.next().ok_or(USAGE)?);
-        let mut options =
-            Options { trace_vectors, list_vectors, traces: DEFAULT_TRACES, lists: DEFAULT_LISTS, seed: 1 };
+        let mut folder = || words.next().map(PathBuf::from).ok_or(USAGE);
+        let (trace_vectors, list_vectors, account_vectors) = (folder()?, folder()?, folder()?);
+        let (traces, lists, seed) = (DEFAULT_TRACES, DEFAULT_LISTS, 1);
+        let mut options = Options { trace_vectors, list_vectors, account_vectors, traces, lists, seed };
         while let Some(word) = words.next() {
             let number = words.next().and_then(|number| number.parse().ok());
             let number = number.ok_or_else(|| format!("{word} needs a number; {USAGE}"))?;

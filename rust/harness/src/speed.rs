@@ -1,4 +1,4 @@
-//! How long both checkers take for full-size traces, in nanoseconds a row.
+//! How long both checkers take for full-size traces, in nanoseconds a row; and how anything is measured on both sides.
 
 use std::hint::black_box;
 use std::time::{Duration, Instant};
@@ -9,8 +9,8 @@ use crate::Outcome;
 use crate::full_size::{all_contexts, empty, in_bounds_of, out_of_bounds};
 use crate::library::{self, Answer};
 
-/// A call is made again until so much time has gone, and the quickest time counts.
-const LONG_ENOUGH: Duration = Duration::from_millis(400);
+/// Both are called in turn until so much time has gone, and the quickest time of each counts.
+const LONG_ENOUGH: Duration = Duration::from_millis(1_500);
 /// No full-size input may take longer: a bound for sanity, not for speed.
 const TOO_LONG: Duration = Duration::from_secs(10);
 
@@ -26,15 +26,23 @@ pub fn measure_all() -> Outcome<()> {
 fn measure(name: &str, draft: &Draft) -> Outcome<()> {
     let mut trace = draft.to_bytes();
     let mut out = Answer::default();
-    let reference = quickest(|| {
-        black_box(reference::check(black_box(&trace)));
-    });
-    let library = quickest(|| library::check(black_box(&mut trace), &mut out));
-    report(name, library, reference, trace.len() / ROW_BYTES, "row")
+    let library = |trace: &mut Vec<u8>| library::check(trace, &mut out);
+    let reference = |trace: &mut Vec<u8>| {
+        black_box(reference::check(trace));
+    };
+    let times = quickest(&mut trace, library, reference);
+    report(name, times, trace.len() / ROW_BYTES, "row")
 }
 
-/// Prints what a full-size input took both of them, by the units that it has.
-pub fn report(name: &str, library: Duration, reference: Duration, units: usize, unit: &str) -> Outcome<()> {
+/// The least times that a full-size input takes the library and the reference.
+pub struct Times {
+    library: Duration,
+    reference: Duration,
+}
+
+/// Prints the times for an input, by the units that it has.
+pub fn report(name: &str, times: Times, units: usize, unit: &str) -> Outcome<()> {
+    let Times { library, reference } = times;
     if library > TOO_LONG {
         return Err(format!("{name}: the library takes {library:?} at full size"));
     }
@@ -44,16 +52,20 @@ pub fn report(name: &str, library: Duration, reference: Duration, units: usize, 
     Ok(())
 }
 
-/// The least time that a call takes.
-pub fn quickest(mut call: impl FnMut()) -> Duration {
+/// Calls the library and the reference in turn, so that what else goes on meets both, and on the same bytes, so that
+/// both find them at the same place in memory.
+pub fn quickest<T>(lent: &mut T, mut library: impl FnMut(&mut T), mut reference: impl FnMut(&mut T)) -> Times {
     let start = Instant::now();
-    let mut quickest = Duration::MAX;
-    loop {
-        let before = Instant::now();
-        call();
-        quickest = quickest.min(before.elapsed());
-        if start.elapsed() > LONG_ENOUGH {
-            return quickest;
-        }
+    let mut times = Times { library: Duration::MAX, reference: Duration::MAX };
+    while start.elapsed() < LONG_ENOUGH {
+        times.library = times.library.min(time_of(lent, &mut library));
+        times.reference = times.reference.min(time_of(lent, &mut reference));
     }
+    times
+}
+
+fn time_of<T>(lent: &mut T, call: &mut impl FnMut(&mut T)) -> Duration {
+    let before = Instant::now();
+    call(black_box(lent));
+    before.elapsed()
 }

@@ -17,7 +17,7 @@ pub fn tell(random: &mut Random) -> Draft {
 }
 
 /// A context's number: small ones, the largest, and ones that share some of their bytes.
-fn context(random: &mut Random) -> u32 {
+pub fn context(random: &mut Random) -> u32 {
     let any = random.next() as u32;
     let mask = random.pick(&[0x0f, 0xff00_0001, 0x0001_0001, u32::MAX]);
     if random.once_in(10) { u32::MAX } else { (any & mask).max(1) }

@@ -2,8 +2,10 @@
 
 use std::ops::Range;
 
+use crate::claim::Claim;
 use crate::cycle::State;
-use crate::make::{Claim, Price, make_cycle, make_rows, pay};
+use crate::make::{make_cycle, make_rows, pay};
+use crate::price::Price;
 use crate::row::{Column, Row, to_bytes};
 use crate::sum::{Sum, sum_up};
 use crate::wide::Wide;

@@ -91,14 +91,13 @@ macro_rules! columns {
                 Row { $($field,)* }
             }
 
-            /// The row in bytes.
-            pub fn to_bytes(&self) -> [u8; ROW_BYTES] {
-                let mut bytes = [0; ROW_BYTES];
+            /// Writes the row into its bytes.
+            #[inline]
+            pub fn write(&self, bytes: &mut [u8; ROW_BYTES]) {
                 let rest = bytes.as_mut_slice();
                 $(let (cell, rest) = rest.split_at_mut($width);
                 self.$field.write(cell);)*
                 debug_assert!(rest.is_empty());
-                bytes
             }
 
             /// The cell of a column.
@@ -149,6 +148,15 @@ columns! {
     AUX2 aux2: u8, 1;
 }
 
+impl Row {
+    /// The row in bytes.
+    pub fn to_bytes(&self) -> [u8; ROW_BYTES] {
+        let mut bytes = [0; ROW_BYTES];
+        self.write(&mut bytes);
+        bytes
+    }
+}
+
 impl Column {
     /// The largest number that a cell of this column holds.
     pub fn largest(self) -> Wide {
@@ -168,6 +176,12 @@ impl Column {
 /// The bytes of rows, one row after another.
 pub fn to_bytes(rows: &[Row]) -> Vec<u8> {
     rows.iter().flat_map(Row::to_bytes).collect()
+}
+
+/// The first row of each cycle in the bytes of a trace.
+pub fn first_rows(trace: &[u8]) -> impl Iterator<Item = Row> {
+    let rows = trace.as_chunks().0.iter().map(Row::from_bytes);
+    rows.filter(|row| row.stamp != 0 && row.ct == 0)
 }
 
 #[cfg(test)]

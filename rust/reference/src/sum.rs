@@ -34,17 +34,30 @@ pub const Q2ACC: Sum = Sum::of(Column::Q2BYTE, Column::Q2ACC);
 /// All of them.
 pub const SUMS: [Sum; 6] = [ACC1, ACC2, DACC, EACC, Q1ACC, Q2ACC];
 
+/// The byte of a number of at most 32 bits, and the sum up to it, in the row with so many rows of its cycle after it.
+#[inline]
+pub fn part(total: u32, after: u8) -> (u8, u32) {
+    let acc = total >> (8 * after);
+    (acc as u8, acc)
+}
+
+/// The same of any number.
+#[inline]
+pub fn wide_part(total: Wide, after: u8) -> (u8, Wide) {
+    let acc = total.without_last_bytes(after);
+    (acc.last_byte(), acc)
+}
+
 /// Writes the bytes of `total`, highest first, over the rows of a cycle and sums them up. As many bytes as rows must
 /// hold it.
 pub fn sum_up(cycle: &mut [Row], sum: Sum, total: Wide) {
-    let bytes = total.to_be_bytes();
-    let (over, digits) = bytes.split_at(Wide::BYTES - cycle.len());
-    assert!(over.iter().all(|&byte| byte == 0), "{total:?} needs more rows than {}", cycle.len());
-    let mut reached = Wide::ZERO;
-    for (row, &digit) in cycle.iter_mut().zip(digits) {
-        reached = reached.checked_append(digit).expect("it is at most total");
-        row.set(sum.byte, digit.into());
-        row.set(sum.acc, reached);
+    let rows = cycle.len() as u8;
+    let over = total.without_last_bytes(rows);
+    assert!(over == Wide::ZERO, "{total:?} needs more rows than {rows}");
+    for (row, after) in cycle.iter_mut().zip((0..rows).rev()) {
+        let (byte, acc) = wide_part(total, after);
+        row.set(sum.byte, byte.into());
+        row.set(sum.acc, acc);
     }
 }
 
@@ -58,6 +71,15 @@ mod tests {
         sum_up(&mut cycle, DACC, Wide::from(0x01_0203u32));
         let cells = cycle.map(|row| (row.dbyte, row.dacc));
         assert_eq!(cells, [(1, 0x01), (2, 0x0102), (3, 0x0001_0203)]);
+    }
+
+    #[test]
+    fn parts_of_small_and_wide_numbers_are_the_same() {
+        let total = 0x00ab_cdef;
+        for (after, meant) in [(2, (0xab, 0xab)), (1, (0xcd, 0xabcd)), (0, (0xef, total))] {
+            assert_eq!(part(total, after), meant);
+            assert_eq!(wide_part(total.into(), after), (meant.0, meant.1.into()));
+        }
     }
 
     #[test]

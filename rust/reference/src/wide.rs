@@ -59,6 +59,21 @@ impl Wide {
         (self >= other).then(|| self.wrapping_sub(other))
     }
 
+    /// The number that its bytes write without the last `count` of them.
+    #[inline]
+    pub fn without_last_bytes(self, count: u8) -> Wide {
+        let bits = 8 * u32::from(count);
+        let carried = u128::from(self.top).checked_shl(u128::BITS.wrapping_sub(bits)).unwrap_or(0);
+        let low = self.low.checked_shr(bits).unwrap_or(0);
+        Wide { top: if count == 0 { self.top } else { 0 }, low: low | carried }
+    }
+
+    /// The lowest byte.
+    #[inline]
+    pub fn last_byte(self) -> u8 {
+        self.low as u8
+    }
+
     /// 256 times this number plus `byte`, unless that is 2^136 or more.
     pub fn checked_append(self, byte: u8) -> Option<Wide> {
         let [top, ..] = self.low.to_be_bytes();
@@ -137,6 +152,18 @@ mod tests {
         assert_eq!(written, Some(Wide::from_be_bytes(bytes)));
         assert_eq!(Wide::power_of_two(128).checked_append(0), None);
         assert_eq!(Wide::power_of_two(127).checked_append(0), Some(Wide::power_of_two(135)));
+    }
+
+    #[test]
+    fn the_last_bytes_fall_off() {
+        let bytes: [u8; Wide::BYTES] = std::array::from_fn(|place| 0xf1 - place as u8);
+        let number = Wide::from_be_bytes(bytes);
+        for count in 0..=20 {
+            let kept = bytes.len().saturating_sub(count);
+            let left = bytes[..kept].iter().try_fold(Wide::ZERO, |sum, &byte| sum.checked_append(byte));
+            assert_eq!(Some(number.without_last_bytes(count as u8)), left, "{count} bytes");
+        }
+        assert_eq!(number.last_byte(), 0xe1);
     }
 
     #[test]

@@ -1,12 +1,11 @@
 //! Lists of as many bytes as there may be.
 
+use reference::fill::MAX_LIST;
 use reference::list::Fields;
 
 use crate::Outcome;
 use crate::list::reading::compare;
 
-/// The bytes of the longest list.
-pub const MAX_BYTES: usize = 4_194_304;
 /// The bytes of the shortest line.
 const SHORTEST: usize = 37;
 /// The bytes of the longest line.
@@ -48,15 +47,15 @@ pub fn largest() -> Vec<u8> {
 }
 
 /// Lines in which every field has as few digits as it may.
-fn shortest() -> Vec<u8> {
+pub fn shortest() -> Vec<u8> {
     filled(|step| Fields { cn: 1 + (step % 15) as u32, op: 0x59, ..Fields::default() })
 }
 
 /// Lines one after another, with one or two at the end that make the list as long as it may be.
 fn filled(fields: impl Fn(usize) -> Fields) -> Vec<u8> {
-    let mut text = String::with_capacity(MAX_BYTES);
+    let mut text = String::with_capacity(MAX_LIST);
     for step in 0.. {
-        let room = MAX_BYTES - text.len();
+        let room = MAX_LIST - text.len();
         if room <= LONGEST {
             text += &line_of(room);
             break;
@@ -64,7 +63,7 @@ fn filled(fields: impl Fn(usize) -> Fields) -> Vec<u8> {
         let two_are_left = room <= LONGEST + SHORTEST;
         text += &if two_are_left { line_of(SHORTEST) } else { fields(step).to_string() };
     }
-    assert_eq!(text.len(), MAX_BYTES);
+    assert_eq!(text.len(), MAX_LIST);
     text.into_bytes()
 }
 

@@ -17,9 +17,8 @@ pub fn measure_all() -> Outcome<()> {
 }
 
 fn measure(name: &str, mut list: Vec<u8>) -> Outcome<()> {
-    let reference = quickest(|| walk_reference(black_box(&list)));
-    let library = quickest(|| walk_library(black_box(&mut list)));
-    report(name, library, reference, list.len(), "byte")
+    let times = quickest(&mut list, |list| walk_library(list), |list| walk_reference(list));
+    report(name, times, list.len(), "byte")
 }
 
 fn walk_reference(list: &[u8]) {

@@ -14,8 +14,15 @@ pub fn tell(random: &mut Random) -> Vec<u8> {
 }
 
 fn line(random: &mut Random) -> String {
-    let right = right_fields(random);
-    let fields = match random.below(30) {
+    let right = right_fields(random, any_fields);
+    let choice = random.below(30);
+    spoilt(choice, right, random).to_string()
+}
+
+/// Right fields with a fault by a choice below 7, which some opcodes have a use for all the same; by any other choice
+/// the fields themselves.
+pub fn spoilt(choice: usize, right: Fields, random: &mut Random) -> Fields {
+    match choice {
         0 => Fields { cn: 0, ..right },
         1 => Fields { op: random.byte(), ..right },
         2 => Fields { len2: number(random), ..right },
@@ -24,8 +31,7 @@ fn line(random: &mut Random) -> String {
         5 => Fields { at1: number(random), ..right },
         6 => Fields { cn: random.below(2) as u32, op: random.byte(), ..any_fields(random) },
         _ => right,
-    };
-    fields.to_string()
+    }
 }
 
 fn any_fields(random: &mut Random) -> Fields {
@@ -35,11 +41,11 @@ fn any_fields(random: &mut Random) -> Fields {
     Fields { cn, op, at1, len1, at2, len2 }
 }
 
-/// Fields in which what the opcode has no use for is 0.
-fn right_fields(random: &mut Random) -> Fields {
+/// The fields of a listed opcode: what it has no use for is 0, all others are of any kind.
+pub fn right_fields(random: &mut Random, any: impl FnOnce(&mut Random) -> Fields) -> Fields {
     let listed: Vec<(u8, Kind)> = (0..=u8::MAX).filter_map(|op| Some((op, kind_of(op)?))).collect();
     let (op, kind) = random.pick(&listed);
-    let any = Fields { op, ..any_fields(random) };
+    let any = Fields { op, ..any(random) };
     match kind {
         Kind::Nothing => Fields { cn: any.cn, op, ..Fields::default() },
         Kind::Fixed(_) => Fields { cn: any.cn, op, at1: any.at1, ..Fields::default() },
@@ -55,7 +61,7 @@ fn context(random: &mut Random) -> u32 {
 }
 
 /// An offset or a length: nothing, at the edge of a half or of the whole, or of any count of bits.
-fn number(random: &mut Random) -> u128 {
+pub fn number(random: &mut Random) -> u128 {
     let any = u128::from(random.next()) << 64 | u128::from(random.next());
     let little = random.below(40) as u128;
     match random.below(10) {

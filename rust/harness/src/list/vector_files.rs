@@ -44,7 +44,7 @@ pub fn compare_all(folder: &Path) -> Outcome<usize> {
 
 /// Walks through one list, which must give the answers that are meant and no others.
 fn compare_one(folder: &Path, name: &str, meant: &[LineAnswer]) -> Outcome<()> {
-    let list = fs::read(folder.join(name).with_extension("list")).map_err(|error| error.to_string())?;
+    let list = list_of(folder, name)?;
     let found: Vec<LineAnswer> = compare(&list)?.iter().map(library::line_answer).collect();
     match found.iter().zip(meant).find(|(found, meant)| found != meant) {
         Some((found, meant)) => Err(format!("both answer {found:?}, expected.txt has {meant:?}")),
@@ -54,7 +54,7 @@ fn compare_one(folder: &Path, name: &str, meant: &[LineAnswer]) -> Outcome<()> {
 }
 
 /// The names of the list files in a folder.
-fn lists_in(folder: &Path) -> Outcome<BTreeSet<String>> {
+pub fn lists_in(folder: &Path) -> Outcome<BTreeSet<String>> {
     let told = |error: std::io::Error| format!("{}: {error}", folder.display());
     let mut names = BTreeSet::new();
     for entry in fs::read_dir(folder).map_err(told)? {
@@ -64,6 +64,11 @@ fn lists_in(folder: &Path) -> Outcome<BTreeSet<String>> {
         }
     }
     Ok(names)
+}
+
+/// The list with a name in a folder.
+pub fn list_of(folder: &Path, name: &str) -> Outcome<Vec<u8>> {
+    fs::read(folder.join(name).with_extension("list")).map_err(|error| error.to_string())
 }
 
 /// The answers that are kept for each vector.

@@ -2,9 +2,8 @@
 
 use std::error::Error;
 use std::fmt::Write;
-use std::path::PathBuf;
-use std::{env, fs};
 
+use reference::folder::Folder;
 use reference::list_vectors::all;
 
 /// What the file of answers says of itself.
@@ -16,18 +15,16 @@ const HEAD: &str = "\
 ";
 
 fn main() -> Result<(), Box<dyn Error>> {
-    let folder = env::args_os().nth(1).map(PathBuf::from);
-    let folder = folder.ok_or("usage: list_vectors FOLDER")?;
-    fs::create_dir_all(&folder)?;
+    let folder = Folder::from_command_line()?;
     let vectors = all();
     let mut expected = String::from(HEAD);
     for vector in &vectors {
         for answer in vector.agreed() {
             writeln!(expected, "{}\t{answer}", vector.name)?;
         }
-        fs::write(folder.join(&vector.name).with_extension("list"), &vector.text)?;
+        folder.write(&vector.name, "list", &vector.text)?;
     }
-    fs::write(folder.join("expected.txt"), expected)?;
+    folder.write("expected", "txt", expected)?;
     println!("{} vectors", vectors.len());
     Ok(())
 }

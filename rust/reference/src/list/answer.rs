@@ -2,12 +2,8 @@
 
 use std::fmt;
 
-use super::form::{Stop, read_line};
-use super::instruction::{Instruction, Range, Touched};
+use super::instruction::{Fault, Instruction, Range, Touched};
 use crate::wide::Wide;
-
-/// The refusal of a line that is not of the form.
-pub const NOT_OF_THE_FORM: u8 = 3;
 
 /// What there is to say of a line: its instruction with the claim, or a refusal. What is not meant is 0, and where the
 /// list ends all of it.
@@ -89,13 +85,9 @@ pub fn next_line(list: &[u8], at: usize, line: u64) -> Answer {
     if at >= list.len() {
         return Answer::default();
     }
-    let (fields, next) = match read_line(list, at) {
-        Ok(read) => read,
-        Err(Stop(stop)) => return Answer { refused: NOT_OF_THE_FORM, line, stop, ..Answer::default() },
-    };
-    match Instruction::from_fields(&fields) {
-        Ok(instruction) => Answer::of_instruction(&instruction, next),
-        Err(refused) => Answer { refused, line, ..Answer::default() },
+    match Instruction::read(list, at) {
+        Ok((instruction, next)) => Answer::of_instruction(&instruction, next),
+        Err(Fault { number, stop }) => Answer { refused: number, line, stop, ..Answer::default() },
     }
 }
 

@@ -1,10 +1,12 @@
 //! The instruction: a context, an opcode and what it touches; and the claim that follows from it.
 
-use super::form::Fields;
+use super::form::{Fields, Stop, read_line};
 use super::opcode::{Kind, kind_of};
-use crate::make::Claim;
+use crate::claim::Claim;
 use crate::wide::Wide;
 
+/// The refusal of a line that is not of the form.
+pub const NOT_OF_THE_FORM: u8 = 3;
 /// The refusal of a context 0.
 pub const CONTEXT_0: u8 = 4;
 /// The refusal of an opcode that is not listed.
@@ -50,8 +52,27 @@ pub struct Instruction {
     pub touched: Touched,
 }
 
+/// What is wrong with a line.
+#[derive(Clone, Copy, Debug, PartialEq, Eq)]
+pub struct Fault {
+    /// The number of its refusal.
+    pub number: u8,
+    /// Where it leaves the form, if it does, else 0.
+    pub stop: usize,
+}
+
 impl Instruction {
+    /// The instruction of the line that starts at a place, and the place after the line.
+    #[inline]
+    pub fn read(list: &[u8], at: usize) -> Result<(Instruction, usize), Fault> {
+        let not_of_the_form = |Stop(stop)| Fault { number: NOT_OF_THE_FORM, stop };
+        let (fields, next) = read_line(list, at).map_err(not_of_the_form)?;
+        let instruction = Instruction::from_fields(&fields).map_err(|number| Fault { number, stop: 0 })?;
+        Ok((instruction, next))
+    }
+
     /// The instruction that the fields of a line say, or the number of their refusal.
+    #[inline]
     pub fn from_fields(fields: &Fields) -> Result<Instruction, u8> {
         if fields.cn == 0 {
             return Err(CONTEXT_0);
@@ -64,6 +85,7 @@ impl Instruction {
     }
 
     /// The context and the ends that the instruction claims.
+    #[inline]
     pub fn claim(&self) -> Claim {
         let (end1, end2) = match self.touched {
             Touched::Nothing => (Wide::ZERO, Wide::ZERO),

@@ -5,11 +5,11 @@ mod fields;
 mod form;
 mod opcodes;
 mod order;
-mod texts;
+pub(crate) mod texts;
 mod unused;
 mod whole;
 
-pub use texts::SAMPLE;
+pub use texts::{FAULTS, PLAIN, SAMPLE, lines_of};
 
 use crate::list::{Answer, walk};
 
@@ -97,9 +97,8 @@ pub fn all() -> Vec<Vector> {
 
 #[cfg(test)]
 mod tests {
-    use std::collections::HashSet;
-
     use super::*;
+    use crate::names::assert_plain_and_different;
 
     #[test]
     fn the_reader_says_of_each_vector_what_is_meant() {
@@ -110,12 +109,7 @@ mod tests {
 
     #[test]
     fn names_are_plain_and_differ() {
-        let mut seen = HashSet::new();
-        for Vector { name, .. } in all() {
-            let plain = |c: char| c.is_ascii_lowercase() || c.is_ascii_digit() || c == '_';
-            assert!(name.chars().all(plain), "{name}");
-            assert!(seen.insert(name.clone()), "{name} twice");
-        }
+        assert_plain_and_different(all().into_iter().map(|vector| vector.name));
     }
 
     #[test]

@@ -1,6 +1,6 @@
 //! Vectors with several faults: within a line the lowest number counts, and an earlier line before a later one.
 
-use super::texts::PLAIN;
+use super::texts::{FAULTS, PLAIN};
 use super::{Intended, Vector, reads, refused, stops};
 
 pub fn vectors() -> Vec<Vector> {
@@ -25,14 +25,6 @@ fn in_a_line() -> Vec<Vector> {
         refused("order_unused_field_alone", "cn=1 op=fd at1=1 len1=1 at2=0 len2=1\n", 6, 1),
     ]
 }
-
-/// A line for each refusal, with the place in it at which it leaves the form.
-const FAULTS: [(u8, &str, usize); 4] = [
-    (3, "cn=1 op=52 at1=0 len1=0 at2=0 len2=0 \n", 36),
-    (4, "cn=0 op=52 at1=0 len1=0 at2=0 len2=0\n", 0),
-    (5, "cn=1 op=5e at1=0 len1=0 at2=0 len2=0\n", 0),
-    (6, "cn=1 op=59 at1=0 len1=0 at2=0 len2=1\n", 0),
-];
 
 /// Each refusal in line 1, before each in line 2.
 fn line_by_line() -> Vec<Vector> {

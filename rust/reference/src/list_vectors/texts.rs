@@ -1,5 +1,7 @@
 //! The texts that the vectors are made of: lines from the values of their fields, and edits of them by places.
 
+use crate::list::form::RANGE_DIGITS;
+
 /// The names of the fields in order.
 pub const NAMES: [&str; 6] = ["cn", "op", "at1", "len1", "at2", "len2"];
 /// Where cn stands among the fields.
@@ -37,10 +39,27 @@ pub const SPACES: [usize; 5] = [4, 10, 16, 23, 29];
 /// The place of its newline.
 pub const NEWLINE: usize = 36;
 
+/// A line for each refusal, with the place in it at which it leaves the form.
+pub const FAULTS: [(u8, &str, usize); 4] = [
+    (3, "cn=1 op=52 at1=0 len1=0 at2=0 len2=0 \n", 36),
+    (4, "cn=0 op=52 at1=0 len1=0 at2=0 len2=0\n", 0),
+    (5, "cn=1 op=5e at1=0 len1=0 at2=0 len2=0\n", 0),
+    (6, "cn=1 op=59 at1=0 len1=0 at2=0 len2=1\n", 0),
+];
+
 /// The line with these values.
 pub fn line(values: [&str; 6]) -> String {
     let fields = NAMES.iter().zip(values).map(|(name, value)| format!("{name}={value}"));
     fields.collect::<Vec<_>>().join(" ") + "\n"
+}
+
+/// Right lines of so many bytes in all, at least 37: copies of `PLAIN`, and a last line with a longer number. That is
+/// right as long as the number has at most 32 digits, so the rest must be less than 32.
+pub fn lines_of(bytes: usize) -> String {
+    let longer = bytes % PLAIN.len();
+    assert!(longer < RANGE_DIGITS, "no last line makes up {bytes} bytes");
+    let last = PLAIN.replace("at1=0", &format!("at1=1{}", "0".repeat(longer)));
+    PLAIN.repeat(bytes / PLAIN.len() - 1) + &last
 }
 
 /// The line with these values but for one.

@@ -5,9 +5,9 @@ use super::scenes::{
     LONGEST, beyond, far_end, grown, grown_by_end2, kept, longest_beyond, longest_in_bounds, many_contexts, past_bound,
     tour,
 };
+use crate::claim::Claim;
 use crate::cycle::{BOUND, State};
 use crate::draft::Draft;
-use crate::make::Claim;
 use crate::wide::Wide;
 
 pub fn vectors() -> Vec<Vector> {

@@ -2,9 +2,10 @@
 
 use super::Vector;
 use super::scenes::{LONGEST, SECOND, Scene, beyond, far_end, grown, kept, many_contexts, tour};
+use crate::claim::Claim;
 use crate::cycle::State;
 use crate::draft::Draft;
-use crate::make::{Claim, state_after};
+use crate::make::state_after;
 use crate::row::Column::{self, *};
 use crate::wide::Wide;
 

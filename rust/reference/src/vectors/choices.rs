@@ -3,8 +3,9 @@
 
 use super::Vector;
 use super::scenes::{SECOND, Scene, grown, grown_by_end2, kept, single};
+use crate::claim::Claim;
 use crate::draft::Draft;
-use crate::make::{Claim, Price};
+use crate::price::Price;
 use crate::row::Column::*;
 use crate::row::Row;
 use crate::sum;

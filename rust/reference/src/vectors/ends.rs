@@ -5,8 +5,9 @@ use super::Vector;
 use super::scenes::{
     LONGEST, SECOND_END, SINGLE_END, grown, grown_by_end2, kept, longest_in_bounds, past_bound, single,
 };
+use crate::claim::Claim;
 use crate::draft::Draft;
-use crate::make::{Claim, Price};
+use crate::price::Price;
 use crate::row::Column::*;
 use crate::sum::{self, Sum};
 use crate::wide::Wide;

@@ -73,9 +73,10 @@ impl Draft {
 
 #[cfg(test)]
 mod tests {
-    use std::collections::{HashMap, HashSet};
+    use std::collections::HashMap;
 
     use super::*;
+    use crate::names::assert_plain_and_different;
 
     #[test]
     fn the_checker_gives_each_vector_the_verdict_that_is_meant() {
@@ -86,12 +87,7 @@ mod tests {
 
     #[test]
     fn names_are_plain_and_differ() {
-        let mut seen = HashSet::new();
-        for Vector { name, .. } in all() {
-            let plain = |c: char| c.is_ascii_lowercase() || c.is_ascii_digit() || c == '_';
-            assert!(name.chars().all(plain), "{name}");
-            assert!(seen.insert(name.clone()), "{name} twice");
-        }
+        assert_plain_and_different(all().into_iter().map(|vector| vector.name));
     }
 
     #[test]

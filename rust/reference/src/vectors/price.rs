@@ -4,7 +4,7 @@
 use super::Vector;
 use super::scenes::{SECOND, SINGLE_END, grown, kept, single};
 use crate::draft::Draft;
-use crate::make::Price;
+use crate::price::Price;
 use crate::row::Column::{self, *};
 use crate::sum;
 

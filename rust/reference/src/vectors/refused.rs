@@ -4,7 +4,7 @@
 use super::Vector;
 use super::scenes::{grown, tour};
 use crate::check::Verdict;
-use crate::program::MAX_INPUT;
+use crate::program::MAX_TRACE_INPUT;
 use crate::row::ROW_BYTES;
 
 pub fn vectors() -> Vec<Vector> {
@@ -22,9 +22,9 @@ fn one_byte_repeated() -> Vec<Vector> {
         (ROW_BYTES - 1, NOT_WHOLE_ROWS),
         (ROW_BYTES + 1, NOT_WHOLE_ROWS),
         (2 * ROW_BYTES - 1, NOT_WHOLE_ROWS),
-        (MAX_INPUT - 1, NOT_WHOLE_ROWS),
-        (MAX_INPUT + 1, TOO_LONG),
-        (MAX_INPUT + ROW_BYTES, TOO_LONG),
+        (MAX_TRACE_INPUT - 1, NOT_WHOLE_ROWS),
+        (MAX_TRACE_INPUT + 1, TOO_LONG),
+        (MAX_TRACE_INPUT + ROW_BYTES, TOO_LONG),
     ];
     let mut vectors = vec![vector("refused_empty_input".into(), Vec::new(), NOT_WHOLE_ROWS)];
     for (length, intended) in lengths {
@@ -33,7 +33,7 @@ fn one_byte_repeated() -> Vec<Vector> {
             vectors.push(vector(name, vec![byte; length], intended));
         }
     }
-    for length in [ROW_BYTES, 3 * ROW_BYTES, MAX_INPUT] {
+    for length in [ROW_BYTES, 3 * ROW_BYTES, MAX_TRACE_INPUT] {
         let name = format!("c01_{length}_bytes_of_ones");
         let intended = Verdict::Broken { row: 0, constraint: 1 };
         vectors.push(vector(name, vec![u8::MAX; length], intended));

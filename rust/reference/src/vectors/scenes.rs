@@ -1,10 +1,10 @@
 //! Right traces that the vectors start from. Their numbers fill the bytes of their cells, so that a lost or misplaced
 //! byte shows.
 
+use crate::claim::Claim;
 use crate::cycle::BOUND;
 use crate::draft::Draft;
-use crate::make::Claim;
-use crate::program::MAX_INPUT;
+use crate::program::MAX_TRACE_INPUT;
 use crate::row::ROW_BYTES;
 use crate::wide::Wide;
 
@@ -84,7 +84,7 @@ pub const TOUR: [(&str, usize); 9] = [
 ];
 
 /// The rows of the longest input that `verify` reads.
-pub const LONGEST: usize = MAX_INPUT / ROW_BYTES;
+pub const LONGEST: usize = MAX_TRACE_INPUT / ROW_BYTES;
 
 /// One empty row and 191 instructions in bounds: as many rows as `verify` reads.
 pub fn longest_in_bounds() -> Draft {

@@ -1,0 +1,4 @@
+pub mod DigitLaws
+pub mod MadeLaws
+pub mod ShiftLaws
+pub mod CycleLaws

@@ -1,0 +1,64 @@
+-- The numbers that the code makes the rows of a cycle from, as the model has them.
+use Prim.Native.Nat.{ℕ, _+_, _-_}
+use mathlib.Core.Bool.{Bool, true}
+use mathlib.Core.Path.{_≡_}
+use lib.Dec.{leb, ltb}
+use Rattle.number.specs.Whole.{bound}
+use Rattle.gas.specs.Plain.{parts}
+use Rattle.model.specs.Columns.{Cells}
+use Rattle.model.specs.Constraints.{auxLift}
+use Rattle.model.specs.Cycles as model
+use Rattle.model.specs.State.{State, Sound}
+use Rattle.model.specs.Tests.{pick, bit}
+use Rattle.model.specs.Trace.{inBounds, top, apart, above, lastWord, lastByte, square, reach, beyondEnd, inRow}
+use Rattle.state.specs.Plain.{state}
+use Rattle.state.specs.declared.State as code
+use Rattle.claim.specs.Told.{plainClaim}
+use Rattle.claim.specs.declared.claim.Claim.{Claim}
+use Rattle.cycle.specs.declared.growth.Ends.{Ends}
+use Rattle.cycle.specs.declared.growth.Growth.{Growth}
+use Rattle.cycle.specs.declared.within.Made.{Made}
+
+-- whether the first end is at least the second, and whether the greater one is above the bytes reached
+abbrev pub atLeast : model.Claim → Bool
+atLeast c = leb (c .end2) (c .end1)
+
+abbrev pub grown : State → ℕ → Bool
+grown s t = ltb (s .mem) t
+
+-- the ends of a claim and how they compare
+pub record EndsOf (c : model.Claim) (e : Ends) : Type 0 where
+  pub end1 : e .end1 ≡ c .end1
+  pub end2 : e .end2 ≡ c .end2
+  pub comp : e .comp ≡ bit (atLeast c)
+  pub top : e .top .0 ≡ top c
+  pub apart : e .apart ≡ apart (atLeast c) (c .end1) (c .end2)
+
+-- what the end t makes of the state s
+pub record GrowthOf (s : State) (t : ℕ) (g : Growth) : Type 0 where
+  pub flag : g .flag ≡ bit (grown s t)
+  pub above : g .above ≡ above (grown s t) t (s .mem)
+  pub after : state (g .after) ≡ reach (grown s t) t s
+  pub gas : g .gas .0 ≡ reach (grown s t) t s .cost - s .cost
+  pub word : g .word ≡ lastWord (grown s t) t
+  pub byte : g .byte ≡ lastByte (grown s t) t
+  pub lifted : g .lifted ≡ pick (grown s t) (lastByte (grown s t) t + auxLift) 0
+  pub square : parts (g .square) ≡ square (grown s t) t
+
+-- what the rows of an in-bounds claim at this stamp and state are made from
+pub record MadeOf (k : ℕ) (s : code.State) (c : Claim) (m : Made) : Type 0 where
+  pub stamp : m .stamp ≡ k
+  pub before : m .before ≡ s
+  pub claim : m .claim ≡ c
+  pub ends : EndsOf (plainClaim c) (m .ends)
+  pub growth : GrowthOf (state s) (top (plainClaim c)) (m .growth)
+  pub sound : Sound (state s)
+  pub within : inBounds (plainClaim c) ≡ true
+
+-- row i of its cycle
+abbrev pub withinRow : (stamp : ℕ) → code.State → Claim → (i : ℕ) → Cells
+withinRow stamp s c i = inRow (atLeast (plainClaim c)) (grown (state s) (top (plainClaim c))) stamp (state s) (plainClaim c) i
+
+-- how far the first end that is out of bounds is beyond the bound
+abbrev pub beyond : model.Claim → ℕ
+beyond c = beyondEnd c - bound

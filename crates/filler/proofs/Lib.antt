@@ -1,0 +1,6 @@
+pub mod ReadLaws
+pub mod MeasureLaws
+pub mod WriteLaws
+pub mod FillLaws
+pub mod Theorems
+pub mod OneAnswer

@@ -1,0 +1,118 @@
+-- `filler::write::put_lines` meets its contract. The invariant is Filling: the lines up to a place were read, and the cycles of their instructions are
+-- written, up to a row; filling-next is one turn. The measure is the lines left. As the text is a list, a line that is left is an instruction
+-- (filling-line), and after the last one all cycles are written (filling-all).
+use Prim.Native.Nat.{_+_, _-_, _≤_}
+use mathlib.Core.Logic.{⊎-elim}
+use mathlib.Core.Path.{_≡_, sym, _∙_}
+use native.Mathlib.Numerals.{add-one}
+use native.Mathlib.Omega.{arith}
+use borrow.Author.Needs.{needs}
+use Rattle.list.specs.List.{nextLine}
+use Rattle.list.specs.Told.{toldNext}
+use Rattle.filler.proofs.WriteLaws.{Filling, filling-first, length-kept, filling-all, filling-line, Turn, rows-within, next-asked, filling-next}
+use Rattle.filler.proofs.write.put_lines.Statement.{statement}
+use Rattle.filler.proofs.write.put_lines.Tie as tie
+
+abbrev Inv-loop : tie.InvT-loop
+Inv-loop list lines buf₀ first at₀ row₀ done₀ buf at row done = (done ≤ lines) × Filling list buf₀ buf first at row done
+
+abbrev μ-loop : tie.MeasureT-loop
+μ-loop list lines buf₀ first at₀ row₀ done₀ buf at row done = lines - done
+
+loop-holds : tie.Need-loop-holds Inv-loop μ-loop
+loop-holds c = (search needs, filling-first _ _ _)
+
+add-next-line : tie.Need-add-next-line Inv-loop μ-loop
+add-next-line c = search needs
+
+next-line-requires : tie.Need-next-line-requires Inv-loop μ-loop
+next-line-requires c κs = search needs
+
+enum-known-line : tie.Need-enum-known-line Inv-loop μ-loop
+enum-known-line c = search needs
+
+same-length : tie.Need-same-length Inv-loop μ-loop
+same-length c = length-kept (c .before .before .before .loop .inv .1)
+
+returns : tie.Need-returns Inv-loop μ-loop
+returns c =
+    let test = c .before .before in
+    let l = test .before .loop in
+    let start = test .before .before .before .before in
+    let line = filling-line (start .pre .0) (l .inv .1) (test .loop-test .taken) in
+    let told : c .before .next-line .result ≡ toldNext (l .done + 1) (nextLine (start .args .list .now) (l .at)) = c .before .next-line .ensures in
+    let none = rw (told, line .2) at (c .match .keys2) in
+    ⊎-elim (λ e. absurd (omega (arith, e))) (λ e. absurd (omega (arith, e))) none
+
+claim-of-requires : tie.Need-claim-of-requires Inv-loop μ-loop
+claim-of-requires c κs = search needs
+
+-- where the claim of the next line is made
+turn : (c : tie.After-claim-of Inv-loop μ-loop)
+    → let line = c .before .before in
+    let l = line .before .before .before .before .loop in
+    let a = line .before .before .before .before .before .before .before .args in
+    let one = line .line .given .0 in
+    Turn (a .list .now) (a .buf .now) (l .buf) (a .first) (a .lines) (l .at) (l .row) (l .done) (one .1 .0) (one .0) (c .claim-of .result)
+turn c =
+    let line = c .before .before in
+    let read = line .before .before in
+    let l = read .before .before in
+    let start = l .before .before .before in
+    record {
+      lists = start .pre .0;
+      few = start .pre .1 .0;
+      room = start .pre .1 .1;
+      filling = l .loop .inv .1;
+      less = read .before .loop-test .taken;
+      told = sym (read .next-line .ensures) ∙ line .line .given .1;
+      made = c .claim-of .ensures;
+    }
+
+put-claim-requires : tie.Need-put-claim-requires Inv-loop μ-loop
+put-claim-requires c κs = next-asked (turn (c .before))
+
+rows-of-requires : tie.Need-rows-of-requires Inv-loop μ-loop
+rows-of-requires c κs = search needs
+
+add-row : tie.Need-add-row Inv-loop μ-loop
+add-row c = omega (arith, rows-within (turn (c .before .before .before .before .before)), c .rows-of .ensures)
+
+add-done : tie.Need-add-done Inv-loop μ-loop
+add-done c = search needs
+
+loop-less : tie.Need-loop-less Inv-loop μ-loop
+loop-less c = search needs
+
+loop-again : tie.Need-loop-again Inv-loop μ-loop
+loop-again c =
+    let put = c .before .before .before in
+    (search needs, rw (c .rows-of .ensures, add-one) (filling-next (turn (put .before .before)) (put .put-claim .ensures)))
+
+same-length-2 : tie.Need-same-length-2 Inv-loop μ-loop
+same-length-2 c = length-kept (c .before .loop .inv .1)
+
+returns-2 : tie.Need-returns-2 Inv-loop μ-loop
+returns-2 c = filling-all (c .before .before .before .before .pre .0) (c .before .loop .inv .1) (search needs)
+
+pub put-lines-spec : {M : Type 1} → statement M
+put-lines-spec =
+    tie.close
+    (tie.spec
+    Inv-loop
+    μ-loop
+    loop-holds
+    add-next-line
+    next-line-requires
+    enum-known-line
+    same-length
+    returns
+    claim-of-requires
+    put-claim-requires
+    rows-of-requires
+    add-row
+    add-done
+    loop-less
+    loop-again
+    same-length-2
+    returns-2)

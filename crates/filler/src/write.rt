@@ -1,0 +1,71 @@
+// The second reading of a list: its trace is written, cycle by cycle.
+ghost use mathlib.Core.Path.{_≡_};
+ghost use Prim.Native.Nat.{suc, _+_, _*_, _≤_, _<_};
+ghost use lib.ListN.{length, replicate};
+ghost use lib.Seq.{sets};
+ghost use Rattle.model.specs.Columns.{emptyRow, rowBytes, rowAt, bytesOf};
+ghost use Rattle.model.specs.State.{Sound, fresh};
+ghost use Rattle.model.specs.Trace.{lastOf, cycleOf, cyclesOf};
+ghost use Rattle.model.specs.Verdict.{maxRows};
+ghost use Rattle.state.specs.Look.{lookBack};
+ghost use Rattle.state.specs.Plain.{context};
+ghost use Rattle.claim.specs.Told.{plainClaim};
+ghost use Rattle.filler.specs.Lines.{Lists, listClaims, cycleRows};
+use claim::claim::Claim;
+use claim::claim::claim_of;
+use cycle::put_cycle;
+use cycle::rows_of;
+use list::Next;
+use list::next_line;
+use model::ROW_BYTES;
+use state::look::state_before;
+
+// Writes so many empty rows, from the first on.
+pub(crate) fn put_empty(buf: &mut [u8], rows: usize)
+    requires { ⌜ rows * rowBytes ≤ length (now buf) ⌝ }
+    ensures { λ _. ⌜ now (buf .exit) ≡ sets (now (buf .entry)) 0 (bytesOf (replicate rows emptyRow)) ⌝ }
+{
+    let end = rows * ROW_BYTES;
+    let mut i: usize = 0;
+    while i < end {
+        buf[i] = 0;
+        i += 1;
+    }
+}
+
+// Writes the cycle of one claim more from this row on, behind so many cycles: its context has the state that the latest of them with it leaves.
+fn put_claim(buf: &mut [u8], row: usize, cycles: usize, c: Claim)
+    requires { ⌜ (row + suc (lastOf (plainClaim c))) * rowBytes ≤ length (now buf) ⌝ }
+    requires { ⌜ cycles < maxRows ⌝ }
+    requires { ⌜ Sound (lookBack (rowAt (now buf)) (context (c .context)) cycles row .state) ⌝ }
+    ensures { λ _. ⌜ now (buf .exit) ≡ sets (now (buf .entry)) (row * rowBytes)
+        (bytesOf (cycleOf (suc cycles) (lookBack (rowAt (now (buf .entry))) (context (c .context)) cycles row .state) (plainClaim c))) ⌝ }
+{
+    let own = c.context;
+    let looked = state_before(buf, row, cycles, own);
+    let before = looked.state;
+    put_cycle(buf, row, cycles as u32 + 1, before, c);
+}
+
+// Writes the cycles of a list of so many lines from this row on.
+pub(crate) fn put_lines(list: &[u8], lines: usize, buf: &mut [u8], first: usize)
+    requires { ⌜ Lists (now list) lines ⌝ }
+    requires { ⌜ first + cycleRows (listClaims (now list)) ≤ maxRows ⌝ }
+    requires { ⌜ (first + cycleRows (listClaims (now list))) * rowBytes ≤ length (now buf) ⌝ }
+    ensures { λ _. ⌜ now (buf .exit) ≡ sets (now (buf .entry)) (first * rowBytes) (bytesOf (cyclesOf 1 fresh (listClaims (now (list .entry))))) ⌝ }
+{
+    let mut at: usize = 0;
+    let mut row = first;
+    let mut done: usize = 0;
+    while done < lines {
+        let line = next_line(list, at, done as u64 + 1);
+        let Next::One { instruction, next } = line else {
+            return;
+        };
+        let c = claim_of(instruction);
+        put_claim(buf, row, done, c);
+        row += rows_of(c);
+        at = next;
+        done += 1;
+    }
+}
