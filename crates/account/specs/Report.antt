@@ -6,7 +6,7 @@ use lib.ListN.{length}
 use Rattle.form.specs.Ascii.{ascii}
 use Rattle.gas.specs.Gas.{words}
 use Rattle.model.specs.Columns.{Cells, rowBytes}
-use Rattle.model.specs.Cycles.{Cycle, starts, cycles, counts}
+use Rattle.model.specs.Cycles.{Cycle, cycles, counts}
 use Rattle.model.specs.Tests.{pick}
 use Rattle.refusal.specs.Refusals.{listTooLong}
 use Rattle.text.specs.Line.{field, refusedLine}

@@ -15,7 +15,6 @@ use Rattle.number.specs.Tables.{every}
 use Rattle.number.specs.Tests.{pick}
 use Rattle.number.proofs.TableLaws.{every-at, and-left, and-right}
 use Rattle.number.proofs.TestLaws.{either, is-true}
-use Rattle.model.specs.Columns.{table}
 use Rattle.model.proofs.TableOf.{below, below-at}
 use Rattle.claim.specs.Opcodes.{unlisted, Listed, listed, among, categoryBy, categoryOf}
 use Rattle.claim.specs.declared.opcode.Entry.{Entry}

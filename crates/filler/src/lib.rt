@@ -1,6 +1,6 @@
 // The filler: from the text of a list to its trace in a lent buffer.
 ghost use mathlib.Core.Path.{_≡_};
-ghost use Prim.Native.Nat.{_+_, _*_, _-_, _≤_, _<_};
+ghost use Prim.Native.Nat.{_-_, _<_};
 ghost use lib.ListN.{length};
 ghost use Rattle.model.specs.Trace.{trace};
 ghost use Rattle.model.specs.Verdict.{maxRows};
