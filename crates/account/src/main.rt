@@ -11,13 +11,13 @@ ghost use Rattle.account.specs.Room.{rowText, LinesPut, maxMark, maxChar
 use checker::Counts;
 use checker::count::count_row;
 use checker::count::starts_cycle;
+use console::Input;
+use console::read_input;
+use console::write_output;
 use filler::Filled;
 use filler::fill;
 use gas::Bytes;
 use gas::words_of;
-use input::Input;
-use input::read_input;
-use libc::STDOUT_FILENO;
 use model::ROW_BYTES;
 use row::cells::Row;
 use row::read::read_row;
@@ -182,16 +182,13 @@ fn put_report(input: &[u8], out: &mut [u8; REPORT_BYTES]) -> usize
     }
 }
 
-// A read that fails, or lines that cannot be written, are told on standard error; after a read that failed nothing is printed.
+// After a read that failed nothing is printed.
 fn main() {
     let mut input = [0u8; INPUT_BYTES];
-    let Input::Bytes(n) = read_input(&mut input) else {
-        os::fail(b"account");
+    let Input::Bytes(n) = read_input(b"account", &mut input) else {
         return;
     };
     let mut lines = [0u8; REPORT_BYTES];
     let m = put_report(&input[..n], &mut lines);
-    if !io::write_all(STDOUT_FILENO, &lines[..m]) {
-        os::fail(b"account");
-    }
+    write_output(b"account", &lines[..m]);
 }

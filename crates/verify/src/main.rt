@@ -5,9 +5,9 @@ ghost use Rattle.checker.specs.declared.Verdict.the-variants.{Accepted, Broken}
 ghost use Rattle.verify.specs.Report.{line, report};
 use checker::Counts;
 use checker::Verdict;
-use input::Input;
-use input::read_input;
-use libc::STDOUT_FILENO;
+use console::Input;
+use console::read_input;
+use console::write_output;
 use text::put_bytes;
 use text::put_field;
 
@@ -56,16 +56,13 @@ fn put_report(input: &[u8], out: &mut [u8; LINE_BYTES]) -> usize
     }
 }
 
-// A read that fails, or a line that cannot be written, is told on standard error; after a read that failed nothing is printed.
+// After a read that failed nothing is printed.
 fn main() {
     let mut input = [0u8; INPUT_BYTES];
-    let Input::Bytes(n) = read_input(&mut input) else {
-        os::fail(b"verify");
+    let Input::Bytes(n) = read_input(b"verify", &mut input) else {
         return;
     };
     let mut line = [0u8; LINE_BYTES];
     let m = put_report(&input[..n], &mut line);
-    if !io::write_all(STDOUT_FILENO, &line[..m]) {
-        os::fail(b"verify");
-    }
+    write_output(b"verify", &line[..m]);
 }

@@ -1,17 +1,17 @@
--- `input::read_input` meets its contract. The invariant: what was read is no more than there is room for, and the buffer keeps its length.
+-- `console::read_input` meets its contract. The invariant: what was read is no more than there is room for, and the buffer keeps its length.
 -- The measure is the room left: a turn that goes on has read a byte at least.
 use Prim.Native.Nat.{_≤_, _-_}
 use mathlib.Core.Path.{_≡_}
 use borrow.Author.Needs.{needs}
 use lib.ListN.{length}
-use Rattle.input.proofs.read_input.Statement.{statement}
-use Rattle.input.proofs.read_input.Tie as tie
+use Rattle.console.proofs.read_input.Statement.{statement}
+use Rattle.console.proofs.read_input.Tie as tie
 
 abbrev Inv-loop : tie.InvT-loop
-Inv-loop buf₀ done₀ buf done = (done ≤ length buf) × (length buf ≡ length buf₀)
+Inv-loop program buf₀ done₀ buf done = (done ≤ length buf) × (length buf ≡ length buf₀)
 
 abbrev μ-loop : tie.MeasureT-loop
-μ-loop buf₀ done₀ buf done = length buf - done
+μ-loop program buf₀ done₀ buf done = length buf - done
 
 loop-holds : tie.Need-loop-holds Inv-loop μ-loop
 loop-holds c = search needs
@@ -27,6 +27,9 @@ part-rest-end c = search needs
 
 read-requires : tie.Need-read-requires Inv-loop μ-loop
 read-requires c κs = search needs
+
+fail-requires : tie.Need-fail-requires Inv-loop μ-loop
+fail-requires c κs = search needs
 
 same-length : tie.Need-same-length Inv-loop μ-loop
 same-length c = search needs
@@ -69,6 +72,7 @@ read-input-spec =
     part-rest-start
     part-rest-end
     read-requires
+    fail-requires
     same-length
     returns
     count-requires
