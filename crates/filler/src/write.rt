@@ -60,6 +60,7 @@ pub(crate) fn put_lines(list: &[u8], lines: usize, buf: &mut [u8], first: usize)
     while done < lines {
         let line = next_line(list, at, done as u64 + 1);
         let Next::One { instruction, next } = line else {
+            // Never taken: each of so many lines is an instruction.
             return;
         };
         let c = claim_of(instruction);
