@@ -1,6 +1,6 @@
 #!/usr/bin/env bash
-# The Rust side: the reference passes its tests, the kept vectors are those that it makes, and the built library answers, and fills traces, as it
-# does on full-size and random traces and lists.
+# The Rust side: the reference passes its tests, the kept vectors are those that it makes, and the built library answers, fills traces and reads
+# them back as it does, on full-size and random traces and lists.
 set -euo pipefail
 root=$(cd "$(dirname "${BASH_SOURCE[0]}")/.." && pwd)
 room=$(mktemp -d)

@@ -2,13 +2,13 @@
 use Prim.Native.Nat.{ℕ, zero, suc, _+_, _*_, _/_, _<_, _≤_}
 use mathlib.Core.Bool.{true, false}
 use mathlib.Core.List.{List, [], _∷_, _++_}
-use mathlib.Core.Logic.{_↔_, _⊎_}
+use mathlib.Core.Logic.{_↔_, _⊎_, inl, inr}
 use mathlib.Core.Path.{_≡_, sym, _∙_, ap}
 use native.Mathlib.Nat.{add-zero}
 use native.Mathlib.Omega.{arith}
 use borrow.Author.Tests.{le-leb, lt-leb}
 use lib.Dec.{leb}
-use lib.ListN.{length, getD, take, drop, length-take, length-drop}
+use lib.ListN.{length, getD, take, drop, length-map, length-take, length-drop}
 use lib.Seq.{take-length, getD-take, getD-drop}
 use Rattle.number.specs.Whole.{bound}
 use Rattle.number.proofs.TestLaws.{both-intro}
@@ -16,7 +16,7 @@ use Rattle.gas.specs.Gas.{words, cost}
 use Rattle.model.specs.Alone.{reached, ownClaims, rowAfter, Alone, ByPaper, SameCharge}
 use Rattle.model.specs.Columns.{Cells, emptyRow, rowBytes, rowAt, rowsOf, bytesOf, rowIn}
 use Rattle.model.specs.Constraints.{lastCt}
-use Rattle.model.specs.Cycles.{Cycle, rowsIn, cycles, Claim, claimOf, instruction, part, isInstruction}
+use Rattle.model.specs.Cycles.{Cycle, rowsIn, cycles, Claim, claimOf, claims, counts, instruction, part, isInstruction}
 use Rattle.model.specs.Cycles.{instructionPart, instructionClaim, lastState, nextRow, step}
 use Rattle.model.specs.Promises.{Valid, Fits, Accepted, emptyIn, claimsIn, Carries}
 use Rattle.model.specs.State.{Context, fresh}
@@ -25,7 +25,7 @@ use Rattle.model.proofs.AloneLaws.{after-reached, alone-same, marks, ro
 use Rattle.model.proofs.ExactlyOne.{rows-own, accepted-own, trace-carries}
 use Rattle.model.proofs.JoinLaws.{length-cycle, length-trace, bytes-snoc, cut-le, bytes-cut}
 use Rattle.model.proofs.LastState.{last-trace}
-use Rattle.model.proofs.ReadBack.{claim-of-row, last-of-row, instructions-trace, instruction-trace, rows-of-instruction, cycle-end}
+use Rattle.model.proofs.ReadBack.{claim-of-row, last-of-row, instruction-trace, rows-of-instruction, cycle-end}
 use Rattle.model.proofs.RowBytes.{length-rows, row-of-rows, length-bytes, bytes-part}
 use Rattle.model.proofs.TableOf.{getD-table}
 
@@ -38,6 +38,29 @@ valid-take (suc k) (c ∷ cs) v = (v .0, valid-take k cs (v .1))
 -- fewer claims fit too
 fits-take : (n k : ℕ) (cs : List Claim) → Fits n cs → Fits n (take k cs)
 fits-take n k cs f = record { some = f .some; valid = valid-take k cs (f .valid); rows = omega (arith, f .rows, cut-le n k cs) }
+
+-- ---- which instructions there are
+
+module _ (rows : List Cells) where
+  -- as many are counted as there are claims
+  pub instructions-counted : counts rows .instructions ≡ length (claims rows)
+  unfolding counts
+  instructions-counted = sym (length-map (cycles rows) (λ (c : Cycle). claimOf (c .row)))
+
+  -- instruction suc k is there where claim k is
+  pub is-instruction : (k : ℕ) → k < length (claims rows) → isInstruction rows (suc k) ≡ true
+  unfolding isInstruction counts
+  is-instruction k h =
+      both-intro _ _ (le-leb 1 (suc k) (omega arith)) (le-leb (suc k) (length (cycles rows)) (omega (arith, instructions-counted)))
+
+  -- there is no instruction 0, and none after the last
+  pub no-instruction : (k : ℕ) → (k ≡ 0) ⊎ (length (claims rows) < k) → isInstruction rows k ≡ false
+  unfolding isInstruction counts
+  no-instruction k (inl e) = rw e
+  no-instruction k (inr h) =
+      rw (lt-leb k (length (cycles rows)) (omega (arith, instructions-counted)), le-leb 1 k (omega arith))
+
+-- ---- what an accepted trace says
 
 module _ (l : List ℕ) (a : Accepted l) where
   abbrev n : ℕ
@@ -101,15 +124,9 @@ module _ (l : List ℕ) (a : Accepted l) where
           length-cycle (suc k) (afterClaims fresh done (c .context)) c,
         )
 
-    is-there : isInstruction (rowsOf l) (suc k) ≡ true
-    unfolding isInstruction
-    is-there =
-        let m : length (cycles (rowsOf l)) ≡ length cs = read (λ rows. length (cycles rows)) ∙ instructions-trace n cs in
-        both-intro _ _ (le-leb 1 (suc k) (omega arith)) (le-leb (suc k) (length (cycles (rowsOf l))) (omega arith))
-
     part-there : part l (cycle .first) (rowsIn cycle) ≡ instructionPart l (suc k)
     unfolding instructionPart
-    part-there = rw is-there
+    part-there = rw (is-instruction (rowsOf l) k h)
 
     -- its rows, as a part of the trace itself, are the cycle of its claim after the claims before it
     pub part-is : instructionPart l (suc k) ≡ bytesOf (cycleOf (suc k) (afterClaims fresh done (c .context)) c)
@@ -160,17 +177,37 @@ module _ (l : List ℕ) (a : Accepted l) where
   next-is zero h = rw (length-trace, add-zero)
   next-is (suc k) h = read (λ rows. instruction rows (suc k) .first + rowsIn (instruction rows (suc k))) ∙ sym (cycle-end n k cs h)
 
+  -- there instruction suc k starts
+  pub instruction-at : (k : ℕ) → k < length cs
+      → instruction (rowsOf l) (suc k) ≡ record { first = nextRow (rowsOf l) k; row = rowAt l (nextRow (rowsOf l) k) }
+  instruction-at k h =
+      let first : cycle k h .first ≡ nextRow (rowsOf l) k = first-is k h ∙ sym (next-is k (omega arith)) in
+      let row : cycle k h .row ≡ rowAt l (cycle k h .first) = first-row-is k h ∙ sym (rw add-zero at (row-is k h 0 (omega arith))) in
+      λ i. record { first = first i; row = (row ∙ ap (rowAt l) first) i }
+
+  -- and it has as many rows as its first row says
+  pub next-after : (k : ℕ) → k < length cs
+      → nextRow (rowsOf l) (suc k) ≡ nextRow (rowsOf l) k + suc (lastCt (rowAt l (nextRow (rowsOf l) k) .ooob))
+  unfolding nextRow
+  next-after k h = ap (λ (y : Cycle). y .first + rowsIn y) (instruction-at k h)
+
+  -- the rows before the next row are all there
+  pub next-inside : (k : ℕ) → k ≤ length cs → nextRow (rowsOf l) k * rowBytes ≤ length l
+  next-inside k h = omega (arith, next-is k h, cut-le n k cs, rows-count)
+
+  -- and so is the next row itself, where an instruction is left
+  pub next-there : (k : ℕ) → k < length cs → (nextRow (rowsOf l) k + 1) * rowBytes ≤ length l
+  next-there k h = omega (arith, next-inside (suc k) h, next-after k h)
+
   -- the step of a walker that stands there gives the rows of instruction suc k, and moves past them
   pub step-is : (k : ℕ) (h : k < length cs)
       → step l (nextRow (rowsOf l) k) ≡ record { part = instructionPart l (suc k); next = nextRow (rowsOf l) (suc k) }
-  unfolding step nextRow
+  unfolding step
   step-is k h =
-      let y : Cycle = cycle k h in
-      let first : nextRow (rowsOf l) k ≡ y .first = next-is k (omega arith) ∙ sym (first-is k h) in
-      let row : rowAt l (y .first) ≡ y .row = rw add-zero at (row-is k h 0 (omega arith)) ∙ sym (first-row-is k h) in
-      let fits : leb (y .first + rowsIn y) (length l / rowBytes) ≡ true =
-      le-leb _ (length l / rowBytes) (omega (arith, inside k h, rows-in k h, rows-count, first-is k h)) in
-      rw (first, row, fits, part-there k h)
+      let q : ℕ = nextRow (rowsOf l) k in
+      let fits : leb (q + suc (lastCt (rowAt l q .ooob))) (length l / rowBytes) ≡ true =
+      le-leb _ (length l / rowBytes) (omega (arith, next-inside (suc k) h, next-after k h)) in
+      rw (fits, ← part-there k h, instruction-at k h, next-after k h)
 
   -- after the last instruction it gives an empty part and does not move
   pub step-end : step l (nextRow (rowsOf l) (length cs)) ≡ record { part = []; next = nextRow (rowsOf l) (length cs) }

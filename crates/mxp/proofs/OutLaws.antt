@@ -1,22 +1,42 @@
--- The arrays of the next line, case by case: what the code lays out for its answer is what the definition says.
+-- The arrays of the exported calls, case by case: what the code lays out for its answer is what the definition says.
 use Prim.Native.Nat.{ℕ}
-use mathlib.Core.List.{_∷_, _++_}
-use mathlib.Core.Path.{_≡_, refl}
+use mathlib.Core.List.{List, _∷_, _++_}
+use mathlib.Core.Path.{_≡_, refl, sym, _∙_, ap}
 use lib.ListN.{replicate}
 use Rattle.number.specs.Whole.{long}
+use Rattle.number.proofs.LongLaws.{val-wide}
 use Rattle.number.proofs.TestLaws.{clash}
 use Rattle.model.specs.Cycles.{Claim}
 use Rattle.refusal.specs.declared.Refusal.{Refusal}
 use Rattle.claim.specs.Claims.{claimOf}
 use Rattle.claim.specs.Instruction as spec
 use Rattle.claim.specs.Told.{toldTouched, toldInstruction, toldClaim}
+use Rattle.claim.specs.declared.claim.Claim as claim
 use Rattle.claim.specs.declared.instruction.Instruction.{Instruction}
 use Rattle.claim.proofs.ClaimLaws.{plain-told}
 use Rattle.list.specs.List as list
 use Rattle.list.specs.Told.{toldNext}
 use Rattle.list.specs.declared.Next.the-variants.{End, One, Refused}
-use Rattle.mxp.specs.Out.{touchedList, endList, nextList}
-use Rattle.mxp.specs.Plain.{spread, laidOut, instructionOut}
+use Rattle.trace.specs.Asked.{Answer, given, refused}
+use Rattle.trace.specs.Told.{claimNumbers, toldClaimed}
+use Rattle.trace.specs.declared.place.Claimed.the-variants.{Is}
+use Rattle.mxp.specs.Out.{claimList, touchedList, endList, nextList}
+use Rattle.mxp.specs.Plain.{claimCells, spread, laidOut, instructionOut}
+
+-- the array of an answer is that of its case
+pub answer-out : {A : Type 0} (out : A → List ℕ) {v w a : A} → v ≡ a → v ≡ w → out w ≡ out a
+answer-out out e f = ap out (sym f ∙ e)
+
+-- ---- the claim of an instruction
+
+-- a claim that is told, by the cells of its ends
+pub claim-out : (a : Answer Claim) {c : claim.Claim} → toldClaimed a ≡ Is c → claimCells c ≡ claimList (claimNumbers (toldClaimed a))
+claim-out (given x) {c} e =
+    let same : c ≡ toldClaim x = cc in
+    rw (same, val-wide (x .end1), val-wide (x .end2))
+claim-out (refused n) e = clash cc
+
+-- ---- the next line of a list
 
 -- the list ends
 pub end-out : (l : ℕ) (x : list.Next) → toldNext l x ≡ End → replicate 21 0 ≡ nextList l x

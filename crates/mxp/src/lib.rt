@@ -3,7 +3,7 @@
 ghost use mathlib.Core.Path.{_≡_};
 ghost use lib.ListN.{length};
 ghost use Rattle.filler.specs.Fill.{outcome, bufferAfter};
-ghost use Rattle.mxp.specs.Out.{checkOut, fillOut, nextOut};
+ghost use Rattle.mxp.specs.Out.{checkOut, fillOut, rowsOut, claimOut, lastOut, openOut, stepOut, nextOut};
 ghost use Rattle.mxp.specs.Plain.{noRange, spread, instructionOut};
 use checker::Verdict;
 use claim::claim::claim_of;
@@ -11,8 +11,18 @@ use claim::instruction::Instruction;
 use claim::instruction::Range;
 use claim::instruction::Touched;
 use filler::Filled;
+use last::Last;
+use last::last_state;
 use list::Next;
+use model::ROW_BYTES;
 use number::long::small;
+use state::Context;
+use trace::place::Claimed;
+use trace::place::Place;
+use trace::place::claim_at;
+use trace::place::place_of;
+use walker::next_at;
+use walker::start_of;
 
 // Checks a trace. Its answer: refused, line, 0, accepted, instructions, oob, empty, row, constraint.
 #[no_mangle]
@@ -38,6 +48,95 @@ pub extern "C" fn mxp_fill(list: &[u8], empty: u64, buffer: &mut [u8], out: &mut
     match filled {
         Filled::Rows(n) => *out = [0, 0, 0, n],
         Filled::Refused(r) => *out = [r.number, r.line, 0, 0],
+    }
+}
+
+// Where the rows of instruction k stand in a trace. Its answer: refused, line, 0, first byte of the part, its length in bytes.
+#[no_mangle]
+pub extern "C" fn mxp_rows(trace: &[u8], k: u64, out: &mut [u64; 5])
+    ensures { λ _. ⌜ now (out .exit) ≡ rowsOut (now (trace .entry)) k ⌝ }
+{
+    let place = place_of(trace, k);
+    match place {
+        Place::At { first, rows } => *out = [
+            0,
+            0,
+            0,
+            (first * ROW_BYTES) as u64,
+            (rows * ROW_BYTES) as u64,
+        ],
+        Place::Refused(r) => *out = [r.number, r.line, 0, 0, 0],
+    }
+}
+
+// The claim of instruction k of a trace. Its answer: refused, line, 0, cn, then end 1 and end 2 by their first byte and two halves.
+#[no_mangle]
+pub extern "C" fn mxp_claim(trace: &[u8], k: u64, out: &mut [u64; 10])
+    ensures { λ _. ⌜ now (out .exit) ≡ claimOut (now (trace .entry)) k ⌝ }
+{
+    let claimed = claim_at(trace, k);
+    match claimed {
+        Claimed::Is(c) => {
+            *out = [
+                0,
+                0,
+                0,
+                c.context.cn as u64,
+                c.end1.top as u64,
+                c.end1.hi,
+                c.end1.lo,
+                c.end2.top as u64,
+                c.end2.hi,
+                c.end2.lo,
+            ]
+        }
+        Claimed::Refused(r) => *out = [r.number, r.line, 0, 0, 0, 0, 0, 0, 0, 0],
+    }
+}
+
+// The last state of a context in a trace, with a look at no more than `limit` cycles. Its answer: refused, line, 0, mem, cost, looked.
+#[no_mangle]
+pub extern "C" fn mxp_last_state(trace: &[u8], cn: u32, limit: u64, out: &mut [u64; 6])
+    ensures { λ _. ⌜ now (out .exit) ≡ lastOut (now (trace .entry)) (record { cn = cn }) limit ⌝ }
+{
+    let last = last_state(trace, Context { cn }, limit);
+    match last {
+        Last::Is(a) => *out = [
+            0,
+            0,
+            0,
+            a.state.mem.0 as u64,
+            a.state.cost.0,
+            a.cycles as u64,
+        ],
+        Last::Refused(r) => *out = [r.number, r.line, 0, 0, 0, 0],
+    }
+}
+
+// Opens a walk over a trace. Its answer: refused, line, 0, next row.
+#[no_mangle]
+pub extern "C" fn mxp_open(trace: &[u8], out: &mut [u64; 4])
+    ensures { λ _. ⌜ now (out .exit) ≡ openOut (now (trace .entry)) ⌝ }
+{
+    let start = start_of(trace);
+    *out = [start.why.number, start.why.line, 0, start.next as u64];
+}
+
+// One step of a walk over any bytes, from any row. Its answer: first byte of the part, its length in bytes, next row; 0, 0 and the same row where the part
+// is empty.
+#[no_mangle]
+pub extern "C" fn mxp_step(trace: &[u8], next: usize, out: &mut [u64; 3])
+    ensures { λ _. ⌜ now (out .exit) ≡ stepOut (now (trace .entry)) next ⌝ }
+{
+    let after = next_at(trace, next);
+    if after == next {
+        *out = [0, 0, next as u64];
+    } else {
+        *out = [
+            (next * ROW_BYTES) as u64,
+            ((after - next) * ROW_BYTES) as u64,
+            after as u64,
+        ];
     }
 }
 

@@ -29,9 +29,26 @@ fillTooLong = 7
 abbrev pub bufferShort : ℕ
 bufferShort = 8
 
+-- the refusals of a question to a trace: it is not accepted, there is no instruction k, the context is 0, more cycles are needed than the limit
+abbrev pub notAccepted : ℕ
+notAccepted = 11
+
+abbrev pub noInstruction : ℕ
+noInstruction = 12
+
+abbrev pub contextZero : ℕ
+contextZero = 13
+
+abbrev pub limitTooLow : ℕ
+limitTooLow = 14
+
 -- 3 to 6 give the line from 1; others give line 0.
 abbrev pub inLine : (number line : ℕ) → Refusal
 inLine n line = record { number = n; line = line }
 
 abbrev pub lineless : ℕ → Refusal
 lineless n = inLine n 0
+
+-- what stands for a refusal where there is none
+abbrev pub noRefusal : Refusal
+noRefusal = lineless 0

@@ -1,12 +1,21 @@
 // Why a call refuses its input: document 01's number, and the line of the list where it has one. One function for each refusal.
 ghost use mathlib.Core.Path.{_≡_};
 ghost use Rattle.model.specs.Verdict.{badLength, tooManyRows};
-ghost use Rattle.refusal.specs.Refusals.{lineless, inLine, listTooLong, noEmptyRow, notOfForm, cnZero, notListed, unusedField, fillTooLong, bufferShort};
+ghost use Rattle.refusal.specs.Refusals.{lineless, inLine, noRefusal};
+ghost use Rattle.refusal.specs.Refusals.{listTooLong, noEmptyRow, notOfForm, cnZero, notListed, unusedField, fillTooLong, bufferShort};
+ghost use Rattle.refusal.specs.Refusals.{notAccepted, noInstruction, contextZero, limitTooLow};
 
 // Its number, and the line from 1; line 0 where it is of no line.
 pub struct Refusal {
     pub number: u64,
     pub line: u64,
+}
+
+// Nothing is refused.
+pub fn no_refusal() -> Refusal
+    ensures { λ r. ⌜ r ≡ noRefusal ⌝ }
+{
+    Refusal { number: 0, line: 0 }
 }
 
 // The list has more bytes than a list may have.
@@ -78,6 +87,46 @@ pub fn too_many_rows() -> Refusal
 {
     Refusal {
         number: 10,
+        line: 0,
+    }
+}
+
+// The trace is not accepted.
+pub fn not_accepted() -> Refusal
+    ensures { λ r. ⌜ r ≡ lineless notAccepted ⌝ }
+{
+    Refusal {
+        number: 11,
+        line: 0,
+    }
+}
+
+// The trace has no such instruction.
+pub fn no_instruction() -> Refusal
+    ensures { λ r. ⌜ r ≡ lineless noInstruction ⌝ }
+{
+    Refusal {
+        number: 12,
+        line: 0,
+    }
+}
+
+// The context is 0.
+pub fn context_zero() -> Refusal
+    ensures { λ r. ⌜ r ≡ lineless contextZero ⌝ }
+{
+    Refusal {
+        number: 13,
+        line: 0,
+    }
+}
+
+// More cycles are needed than the limit.
+pub fn limit_too_low() -> Refusal
+    ensures { λ r. ⌜ r ≡ lineless limitTooLow ⌝ }
+{
+    Refusal {
+        number: 14,
         line: 0,
     }
 }

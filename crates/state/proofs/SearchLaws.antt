@@ -1,5 +1,5 @@
 -- The search back turn by turn, as the code takes it; what it finds, and what a lower limit does to it.
-use Prim.Native.Nat.{ℕ, zero, suc, _+_, _-_, _<_, _≤_}
+use Prim.Native.Nat.{ℕ, zero, suc, _+_, _-_, _*_, _<_, _≤_}
 use mathlib.Core.Bool.{Bool, true, false}
 use mathlib.Core.Logic.{_≢_}
 use mathlib.Core.Path.{_≡_, refl, sym, ap}
@@ -7,14 +7,14 @@ use native.Mathlib.Nat.{add-zero, sub-zero, zero-add, le-of-suc-le-suc}
 use native.Mathlib.Omega.{arith}
 use borrow.Author.Tests.{leb-true, le-leb, lt-leb}
 use lib.Dec.{leb, leb·zero, leb·suc-zero, leb·suc-suc}
-use Rattle.model.specs.Columns.{Cells}
+use Rattle.model.specs.Columns.{Cells, rowBytes}
 use Rattle.model.specs.State.{Context, State, sameContext, contextOf}
 use Rattle.model.specs.Tests.{pick}
 use Rattle.model.specs.Verdict.{rowBefore}
 use Rattle.model.proofs.TestFacts.{pick-under}
-use Rattle.state.specs.Look.{cycleRows, foundAt, noneIn, oneMore, searchBack, stateFound, lookBack}
+use Rattle.state.specs.Look.{cycleRows, foundAt, noneIn, oneMore, searchBack, foundIn, stateFound, lookBack}
 use Rattle.state.specs.declared.look.Found.{Found}
-use Rattle.state.specs.declared.look.Found.the-variants.{At}
+use Rattle.state.specs.declared.look.Found.the-variants.{At, Nothing}
 use Rattle.state.specs.declared.look.Search.{Search}
 
 -- ---- one cycle
@@ -119,11 +119,17 @@ found-before r x (suc limit) to i e =
     found-by (leb n to) (sameContext (contextOf (rowBefore r to)) x) n to i (searchBack r x limit (to - n)) (omega arith) (leb-true n to)
     (found-before r x limit (to - n) i) e
 
+-- so it stands in the bytes of those rows
+pub found-inside : (r : ℕ → Cells) (x : Context) (limit to bytes : ℕ) (f : Found) → searchBack r x limit to .found ≡ f
+    → to * rowBytes ≤ bytes → foundIn bytes f
+found-inside r x limit to bytes (At i) e h = omega (arith, found-before r x limit to i e)
+found-inside r x limit to bytes Nothing e h = tt
+
 -- the look-up answers by what the search finds
-pub look-by-found : (r : ℕ → Cells) (x : Context) (limit to : ℕ) {s : Search} {f : Found} {a : State} → s ≡ searchBack r x limit to
-    → s .found ≡ f → a ≡ stateFound r f → record { state = a; cycles = s .count } ≡ lookBack r x limit to
+pub look-by-found : (r : ℕ → Cells) (x : Context) (limit to : ℕ) {s : Search} {a : State} → s ≡ searchBack r x limit to
+    → a ≡ stateFound r (s .found) → record { state = a; cycles = s .count } ≡ lookBack r x limit to
 unfolding lookBack
-look-by-found r x limit to p q e = rw (← p, q, e)
+look-by-found r x limit to p e = rw (← p, e)
 
 -- ---- the limit
 

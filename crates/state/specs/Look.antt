@@ -1,7 +1,7 @@
 -- The look-up of a context's state before a row: back cycle by cycle over any rows, with a limit on the cycles that are looked at.
-use Prim.Native.Nat.{ℕ, zero, suc, _-_}
+use Prim.Native.Nat.{ℕ, zero, suc, _+_, _-_, _*_, _≤_}
 use lib.Dec.{leb}
-use Rattle.model.specs.Columns.{Cells}
+use Rattle.model.specs.Columns.{Cells, rowBytes}
 use Rattle.model.specs.Constraints.{lastCt}
 use Rattle.model.specs.Cycles.{Looked}
 use Rattle.model.specs.State.{Context, State, sameContext, contextOf, stateOf, start}
@@ -36,6 +36,11 @@ searchBack r x (suc limit) to =
     pick (leb (cycleRows last) to)
     (pick (sameContext (contextOf last) x) (foundAt (to - 1)) (oneMore (searchBack r x limit (to - cycleRows last))))
     (noneIn 0)
+
+-- a found row is one of those that stand in so many bytes
+abbrev pub foundIn : (bytes : ℕ) → Found → Type 0
+foundIn bytes (At i) = (i + 1) * rowBytes ≤ bytes
+foundIn bytes Nothing = Unit
 
 -- the state that the found row leaves; if there is none, that of a context without an earlier instruction
 abbrev pub stateFound : (ℕ → Cells) → Found → State

@@ -16,3 +16,7 @@ state s = record { mem = s .mem .0; cost = s .cost .0 }
 -- a state, and how many cycles were looked at for it
 abbrev pub looked : Looked → cycles.Looked
 looked a = record { state = state (a .state); cycles = a .cycles }
+
+-- and back
+abbrev pub toldLooked : cycles.Looked → Looked
+toldLooked a = record { state = record { mem = record { 0 = a .state .mem }; cost = record { 0 = a .state .cost } }; cycles = a .cycles }

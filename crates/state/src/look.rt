@@ -5,7 +5,7 @@ ghost use Prim.Native.Nat.{_+_, _*_, _≤_};
 ghost use lib.ListN.{length};
 ghost use Rattle.model.specs.Columns.{rowBytes, rowAt};
 ghost use Rattle.model.specs.State.{sameContext, contextOf, stateOf};
-ghost use Rattle.state.specs.Look.{cycleRows, searchBack, lookBack};
+ghost use Rattle.state.specs.Look.{cycleRows, searchBack, foundIn, stateFound, lookBack};
 ghost use Rattle.state.specs.Plain.{context, state, looked};
 use crate::Context;
 use crate::State;
@@ -39,7 +39,7 @@ pub struct Looked {
 }
 
 // How many rows the cycle of row i has.
-fn cycle_rows_at(t: &[u8], i: usize) -> usize
+pub fn cycle_rows_at(t: &[u8], i: usize) -> usize
     requires { ⌜ (i + 1) * rowBytes ≤ length (now t) ⌝ }
     ensures { λ r. ⌜ r ≡ cycleRows (rowAt (now (t .entry)) i) ⌝ }
 {
@@ -98,6 +98,17 @@ pub fn search_back(t: &[u8], row: usize, limit: usize, x: Context) -> Search
     Search { found, count }
 }
 
+// The state that the found row leaves; if there is none, that of a context without an earlier instruction.
+pub fn state_found(t: &[u8], found: Found) -> State
+    requires { ⌜ foundIn (length (now t)) found ⌝ }
+    ensures { λ r. ⌜ state r ≡ stateFound (rowAt (now (t .entry))) found ⌝ }
+{
+    match found {
+        Found::At(i) => state_at(t, i),
+        Found::Nothing => start_state(),
+    }
+}
+
 // The state of the context before this row, with a look at no more than so many cycles.
 pub fn state_before(t: &[u8], row: usize, limit: usize, x: Context) -> Looked
     requires { ⌜ row * rowBytes ≤ length (now t) ⌝ }
@@ -105,10 +116,7 @@ pub fn state_before(t: &[u8], row: usize, limit: usize, x: Context) -> Looked
 {
     let s = search_back(t, row, limit, x);
     let found = s.found;
-    let state = match found {
-        Found::At(i) => state_at(t, i),
-        Found::Nothing => start_state(),
-    };
+    let state = state_found(t, found);
     Looked {
         state,
         cycles: s.count,

@@ -1,6 +1,6 @@
-//! `full`: compares the library with the reference, its checker on traces, its list reader and its filler on lists, at
-//! full size, on the vectors and at random, then measures both. It ends with a message and another status than 0 at the
-//! first difference.
+//! `full`: compares the library with the reference, its checker and its calls over a trace on traces, its list reader and
+//! its filler on lists, at full size, on the vectors and at random, then measures both. It ends with a message and
+//! another status than 0 at the first difference.
 
 mod compare;
 mod damage;
@@ -14,6 +14,7 @@ mod options;
 mod random;
 mod speed;
 mod story;
+mod trace_calls;
 mod trials;
 mod vector_files;
 
@@ -48,7 +49,16 @@ fn run(options: &Options) -> Outcome<()> {
     println!("fill refusals: {} calls as meant", fill::refusals::compare_all()?);
     println!("full-size fills: {} calls as meant", fill::full_size::compare_all()?);
     println!("random fills: {}", fill::trials::compare_all(options.lists, options.seed)?);
+    println!("call refusals: {} answers as meant", trace_calls::refusals::compare_all()?);
+    println!("call scenes: {} answers as meant", trace_calls::scenes::compare_all()?);
+    println!("call sweeps: {} answers as meant", trace_calls::sweeps::compare_all()?);
+    println!("call vectors: {} answers agree", trace_calls::vector_files::compare_all(&options.trace_vectors)?);
+    let read_back = trace_calls::read_back::compare_all(list_folders, options.lists, options.seed)?;
+    println!("calls on filled traces: {read_back} answers as the lists have it");
+    println!("full-size calls: {} answers as meant", trace_calls::full_size::compare_all()?);
+    println!("random calls: {}", trace_calls::trials::compare_all(options.traces, options.seed)?);
     speed::measure_all()?;
     list::speed::measure_all()?;
-    fill::speed::measure_all()
+    fill::speed::measure_all()?;
+    trace_calls::speed::measure_all()
 }

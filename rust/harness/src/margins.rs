@@ -9,7 +9,7 @@ const MARGIN: usize = 61;
 /// Numbers before and after the room for an answer.
 const OUT_MARGIN: usize = 4;
 /// What the margins and the room for an answer hold before the call.
-const PATTERN: u64 = 0xa5a5_5a5a_c3c3_3c3c;
+pub const PATTERN: u64 = 0xa5a5_5a5a_c3c3_3c3c;
 
 /// Bytes to lend, between others that are not lent.
 pub struct Lent {
@@ -55,11 +55,16 @@ impl Lent {
 
 /// The numbers that a call writes into its room for them, if it writes nothing beside it.
 pub fn answered<const N: usize>(call: impl FnOnce(&mut [u64; N])) -> Outcome<[u64; N]> {
-    let mut out = vec![PATTERN; OUT_MARGIN + N + OUT_MARGIN];
+    answered_over(PATTERN, call)
+}
+
+/// The same if `old` is what the room and the margins hold before the call.
+pub fn answered_over<const N: usize>(old: u64, call: impl FnOnce(&mut [u64; N])) -> Outcome<[u64; N]> {
+    let mut out = vec![old; OUT_MARGIN + N + OUT_MARGIN];
     let (before, rest) = out.split_at_mut(OUT_MARGIN);
     let (answer, after) = rest.split_first_chunk_mut().expect("there is room for the answer");
     call(answer);
-    if before.iter().chain(after.iter()).any(|&number| number != PATTERN) {
+    if before.iter().chain(after.iter()).any(|&number| number != old) {
         return Err("the library wrote beside its answer".into());
     }
     Ok(*answer)

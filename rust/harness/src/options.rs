@@ -19,7 +19,7 @@ pub struct Options {
     pub list_vectors: PathBuf,
     /// The folder of the vectors of `account`, which are lists too.
     pub account_vectors: PathBuf,
-    /// How many random traces.
+    /// How many random traces to check, and how many to put the other calls to.
     pub traces: u64,
     /// How many random lists to read, and how many to fill traces from.
     pub lists: u64,

@@ -9,6 +9,16 @@ use crate::compare::compare;
 
 /// Compares on every vector of a folder; answers how many there are.
 pub fn compare_all(folder: &Path) -> Outcome<usize> {
+    let mut answers = 0;
+    for_each_trace(folder, |trace| {
+        answers += 1;
+        compare(trace).map(drop)
+    })?;
+    Ok(answers)
+}
+
+/// Does something with every vector of a folder, which must hold some.
+pub fn for_each_trace(folder: &Path, mut act: impl FnMut(&[u8]) -> Outcome<()>) -> Outcome<()> {
     let files = traces_in(folder).map_err(|error| format!("{}: {error}", folder.display()))?;
     if files.is_empty() {
         return Err(format!("{} holds no vectors", folder.display()));
@@ -16,9 +26,9 @@ pub fn compare_all(folder: &Path) -> Outcome<usize> {
     for file in &files {
         let told = |error: &dyn std::fmt::Display| format!("vector {}: {error}", file.display());
         let trace = fs::read(file).map_err(|error| told(&error))?;
-        compare(&trace).map_err(|error| told(&error))?;
+        act(&trace).map_err(|error| told(&error))?;
     }
-    Ok(files.len())
+    Ok(())
 }
 
 fn traces_in(folder: &Path) -> std::io::Result<Vec<PathBuf>> {

@@ -1,5 +1,5 @@
-//! Traces of memory expansion, judged, made and filled from lists of instructions as document 01 says, apart from the
-//! stage's own code: a second opinion to compare that code with, and the source of the test vectors.
+//! Traces of memory expansion, judged, asked, made and filled from lists of instructions as document 01 says, apart from
+//! the stage's own code: a second opinion to compare that code with, and the source of the test vectors.
 
 #![forbid(unsafe_code)]
 
@@ -21,7 +21,9 @@ pub mod program;
 pub mod refusal;
 pub mod row;
 pub mod sum;
+pub mod trace;
 pub mod vectors;
+pub mod walker;
 pub mod wide;
 
 pub use check::{MAX_ROWS, Verdict, check};
@@ -32,4 +34,6 @@ pub use fill::fill;
 pub use make::make;
 pub use refusal::Refusal;
 pub use row::{Column, ROW_BYTES, Row};
+pub use trace::{LastState, Trace};
+pub use walker::Walker;
 pub use wide::Wide;

@@ -157,7 +157,24 @@ impl Row {
     }
 }
 
+/// Where in a row the cell of each column starts.
+const STARTS: [usize; Column::ALL.len()] = {
+    let mut starts = [0; Column::ALL.len()];
+    let mut column = 1;
+    while column < starts.len() {
+        starts[column] = starts[column - 1] + Column::ALL[column - 1].width();
+        column += 1;
+    }
+    starts
+};
+
 impl Column {
+    /// The bytes of this column's cell among those of a row.
+    #[inline]
+    fn cell_in(self, row: &[u8; ROW_BYTES]) -> &[u8] {
+        &row[STARTS[self as usize]..][..self.width()]
+    }
+
     /// The largest number that a cell of this column holds.
     pub fn largest(self) -> Wide {
         let mut bytes = [0; Wide::BYTES];
@@ -171,6 +188,24 @@ impl Column {
         bytes[Wide::BYTES - self.width()] = 0x80;
         Wide::from_be_bytes(bytes)
     }
+}
+
+/// STAMP of a row, without reading its other cells.
+#[inline]
+pub fn stamp_of(row: &[u8; ROW_BYTES]) -> u32 {
+    Cell::read(Column::STAMP.cell_in(row))
+}
+
+/// CN of a row, without reading its other cells.
+#[inline]
+pub fn cn_of(row: &[u8; ROW_BYTES]) -> u32 {
+    Cell::read(Column::CN.cell_in(row))
+}
+
+/// OOOB of a row, without reading its other cells.
+#[inline]
+pub fn ooob_of(row: &[u8; ROW_BYTES]) -> u8 {
+    Cell::read(Column::OOOB.cell_in(row))
 }
 
 /// The bytes of rows, one row after another.
@@ -213,6 +248,14 @@ mod tests {
             at += column.width();
         }
         assert_eq!(at, ROW_BYTES);
+    }
+
+    #[test]
+    fn single_cells_are_those_of_the_row() {
+        let bytes = std::array::from_fn(|place| place as u8 + 1);
+        let row = Row::from_bytes(&bytes);
+        assert_eq!((stamp_of(&bytes), cn_of(&bytes), ooob_of(&bytes)), (row.stamp, row.cn, row.ooob));
+        assert_eq!(Column::AUX2.cell_in(&bytes), [114]);
     }
 
     #[test]

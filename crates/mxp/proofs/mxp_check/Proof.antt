@@ -1,18 +1,11 @@
 -- `mxp::mxp_check` writes the numbers of the answer that the checker gives, case by case.
-use Prim.Native.Nat.{ℕ}
-use mathlib.Core.Path.{_≡_, sym, _∙_, ap}
-use mathlib.Core.List.{List}
 use borrow.Author.Needs.{needs}
-use Rattle.checker.specs.Answer.{numbers, told}
+use Rattle.checker.specs.Answer.{numbers}
 use Rattle.checker.specs.declared.Verdict.{Verdict}
-use Rattle.model.specs.Verdict.{verdict}
-use Rattle.mxp.specs.Out.{checkList, checkOut}
+use Rattle.mxp.specs.Out.{checkList}
+use Rattle.mxp.proofs.OutLaws.{answer-out}
 use Rattle.mxp.proofs.mxp_check.Statement.{statement}
 use Rattle.mxp.proofs.mxp_check.Tie as tie
-
--- the array of the checker's answer
-answer-out : (l : List ℕ) {v w : Verdict} → v ≡ told (verdict l) → v ≡ w → checkList (numbers w) ≡ checkOut l
-answer-out l e f = ap (λ (v : Verdict). checkList (numbers v)) (sym f ∙ e)
 
 check-requires : tie.Need-check-requires
 check-requires c κs = search needs
@@ -29,17 +22,17 @@ enum-known-verdict-3 c = search needs
 returns : tie.Need-returns
 returns c =
     let told = c .before .before in
-    answer-out _ (told .before .before .check .ensures) (told .verdict .given .1)
+    answer-out (λ (v : Verdict). checkList (numbers v)) (told .before .before .check .ensures) (told .verdict .given .1)
 
 returns-2 : tie.Need-returns-2
 returns-2 c =
     let told = c .before .before in
-    answer-out _ (told .before .before .check .ensures) (told .verdict2 .given .1)
+    answer-out (λ (v : Verdict). checkList (numbers v)) (told .before .before .check .ensures) (told .verdict2 .given .1)
 
 returns-3 : tie.Need-returns-3
 returns-3 c =
     let told = c .before .before in
-    answer-out _ (told .before .before .check .ensures) (told .verdict3 .given .1)
+    answer-out (λ (v : Verdict). checkList (numbers v)) (told .before .before .check .ensures) (told .verdict3 .given .1)
 
 pub mxp-check-spec : {M : Type 1} → statement M
 mxp-check-spec =

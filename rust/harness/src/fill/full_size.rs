@@ -67,8 +67,8 @@ pub fn out_of_bounds() -> String {
     lines(OUT_OF_BOUNDS, |step| far(1 + step % 7, step))
 }
 
-/// Instructions of both kinds, a full trace.
-fn mixed() -> String {
+/// Instructions of both kinds, every 81st of them out of bounds, a full trace.
+pub fn mixed() -> String {
     let fields = |step| if step % 81 == 80 { far } else { near };
     lines(MIXED, |step| fields(step)(1 + step % 9, step))
 }

@@ -1,4 +1,6 @@
 -- OOOB of the row decides.
+use mathlib.Core.Path.{_≡_}
+use native.Mathlib.Omega.{arith}
 use borrow.Author.Tests.{eq-eqb, ne-eqb}
 use borrow.Author.Needs.{needs}
 use Rattle.model.specs.Constraints.{lastCt}
@@ -10,7 +12,9 @@ ooob-at-requires c κs = search needs
 
 returns : tie.Need-returns
 unfolding lastCt
-returns c = rw (← c .before .ooob-at .ensures, eq-eqb _ _ (c .if1 .taken))
+returns c =
+    let one : c .before .ooob-at .result ≡ 1 = omega (arith, c .if1 .taken) in
+    rw (← c .before .ooob-at .ensures, eq-eqb _ _ one)
 
 returns-2 : tie.Need-returns-2
 unfolding lastCt

@@ -1,0 +1,4 @@
+pub mod EndLaws
+pub mod LastLaws
+pub mod Theorems
+pub mod OneAnswer

@@ -1,0 +1,4 @@
+pub mod AdmitLaws
+pub mod PlaceLaws
+pub mod Theorems
+pub mod OneAnswer

@@ -1,0 +1,123 @@
+// Where instruction k of a trace stands, its rows and its claim.
+ghost use mathlib.Core.Path.{_≡_};
+ghost use mathlib.Core.Bool.{_&&_};
+ghost use Prim.Native.Nat.{_+_, _*_, _≤_};
+ghost use lib.Dec.{leb};
+ghost use lib.ListN.{length};
+ghost use Rattle.model.specs.Columns.{rowBytes, rowsOf};
+ghost use Rattle.model.specs.Cycles.{part, nextRow};
+ghost use Rattle.model.specs.Promises.{Accepted, emptyIn, claimsIn};
+ghost use Rattle.trace.specs.Asked.{whereIs, partOf, claimIn};
+ghost use Rattle.trace.specs.Told.{refusalOf, toldPlace, toldClaimed};
+use crate::admit::Admitted;
+use crate::admit::admit;
+use claim::claim::Claim;
+use model::ROW_BYTES;
+use refusal::Refusal;
+use row::read::read_row;
+use state::context_of;
+use state::look::cycle_rows_at;
+
+// Where an instruction stands: document 01's numbers for each case are `partNumbers` of specs/Told.antt.
+pub enum Place {
+    // Its first row, and how many rows it has.
+    At { first: usize, rows: usize },
+    Refused(Refusal),
+}
+
+// The claim of an instruction: document 01's numbers for each case are `claimNumbers` of specs/Told.antt.
+pub enum Claimed {
+    Is(Claim),
+    Refused(Refusal),
+}
+
+// The row after so many instructions of an accepted trace with so many empty rows.
+fn row_after(t: &[u8], empty: usize, passed: u64) -> usize
+    requires { ⌜ Accepted (now t) ⌝ }
+    requires { ⌜ empty ≡ emptyIn (now t) ⌝ }
+    requires { ⌜ passed ≤ length (claimsIn (now t)) ⌝ }
+    ensures { λ r. ⌜ r ≡ nextRow (rowsOf (now (t .entry))) passed ⌝ }
+{
+    let mut row = empty;
+    let mut i = 0;
+    while i < passed {
+        row += cycle_rows_at(t, row);
+        i += 1;
+    }
+    row
+}
+
+// Whether there is an instruction k (from 1) among so many.
+fn is_among(k: u64, instructions: u64) -> bool
+    ensures { λ r. ⌜ r ≡ (leb 1 k && leb k instructions) ⌝ }
+{
+    (1 <= k) & (k <= instructions)
+}
+
+// Where instruction k (from 1) stands. Every trace and number has an answer.
+pub fn place_of(t: &[u8], k: u64) -> Place
+    ensures { λ r. ⌜ r ≡ toldPlace (whereIs (now (t .entry)) k) ⌝ }
+{
+    let admitted = admit(t);
+    match admitted {
+        Admitted::Refused(why) => Place::Refused(why),
+        Admitted::With(c) => {
+            if is_among(k, c.instructions) {
+                let first = row_after(t, c.empty as usize, k - 1);
+                let rows = cycle_rows_at(t, first);
+                return Place::At { first, rows };
+            }
+            Place::Refused(refusal::no_instruction())
+        }
+    }
+}
+
+// So many rows of the trace from a row on, as a part of the trace itself. Only crates of this repository call this function: it asks that the rows
+// are there.
+pub fn rows_from<'a>(t: &'a [u8], first: usize, rows: usize) -> &'a [u8]
+    requires { ⌜ (first + rows) * rowBytes ≤ length (now t) ⌝ }
+    ensures { λ r. ⌜ now r ≡ part (now (t .entry)) first rows ⌝ }
+{
+    let from = first * ROW_BYTES;
+    let to = from + rows * ROW_BYTES;
+    &t[from..to]
+}
+
+// The rows of instruction k as a part of the trace itself, and the number of its refusal: 0 and so many rows, or an empty part.
+pub fn rows_of<'a>(t: &'a [u8], k: u64, refused: &mut u64) -> &'a [u8]
+    ensures { λ r. ⌜ now r ≡ partOf (now (t .entry)) (whereIs (now (t .entry)) k) ⌝ }
+    ensures { λ _. ⌜ now (refused .exit) ≡ refusalOf (whereIs (now (t .entry)) k) .number ⌝ }
+{
+    let place = place_of(t, k);
+    match place {
+        Place::At { first, rows } => {
+            *refused = 0;
+            rows_from(t, first, rows)
+        }
+        Place::Refused(why) => {
+            *refused = why.number;
+            &t[0..0]
+        }
+    }
+}
+
+// The claim of instruction k.
+pub fn claim_at(t: &[u8], k: u64) -> Claimed
+    ensures { λ r. ⌜ r ≡ toldClaimed (claimIn (whereIs (now (t .entry)) k)) ⌝ }
+{
+    let place = place_of(t, k);
+    match place {
+        Place::At { first, rows: _ } => {
+            let x = read_row(t, first);
+            let context = context_of(x);
+            let end1 = x.head.end1;
+            let end2 = x.head.end2;
+            Claimed::Is(Claim {
+                context,
+                end1,
+                end2,
+            })
+        }
+        Place::Refused(why) => Claimed::Refused(why),
+    }
+}

@@ -1,0 +1,6 @@
+pub mod StepLaws
+pub mod Called
+pub mod Held
+pub mod Lent
+pub mod Theorems
+pub mod OneAnswer

@@ -1,0 +1,14 @@
+//! The calls over a trace put to the test, beside those of the reference: the rows and the claim of an instruction, the
+//! last state of a context, and the walker.
+
+pub mod asked;
+pub mod everything;
+pub mod full_size;
+pub mod question;
+pub mod read_back;
+pub mod refusals;
+pub mod scenes;
+pub mod speed;
+pub mod sweeps;
+pub mod trials;
+pub mod vector_files;
