@@ -13,7 +13,7 @@ use Rattle.trace.specs.Asked.{Answer, given, refused, ofAccepted}
 use Rattle.last.specs.declared.Last.{Last}
 use Rattle.last.specs.declared.Last.the-variants as last
 
--- 14: more cycles needed than the limit
+-- an answer within a limit on cycles. 14: more cycles needed than the limit.
 unfoldable pub withinLimit : (limit : ℕ) → Looked → Answer Looked
 withinLimit limit a = pick (ltb limit (a .cycles)) (refused limitTooLow) (given a)
 
@@ -24,11 +24,12 @@ lastOf l x limit =
 
 -- ---- what is told
 
+-- the state, and how many cycles were looked at for it
 abbrev pub toldLast : Answer Looked → Last
 toldLast (given a) = last.Is (toldLooked a)
 toldLast (refused n) = last.Refused (lineless n)
 
--- MEMN, COSTN and how many cycles it looked at
+-- the numbers of a refusal, MEMN, COSTN and how many cycles it looked at
 pub record LastNumbers : Type 0 where
   pub refused : ℕ
   pub line : ℕ
@@ -36,6 +37,7 @@ pub record LastNumbers : Type 0 where
   pub cost : ℕ
   pub looked : ℕ
 
+-- on a refusal all other result fields are 0
 abbrev pub lastNumbers : Last → LastNumbers
 lastNumbers (last.Is a) = record { refused = 0; line = 0; mem = a .state .mem .0; cost = a .state .cost .0; looked = a .cycles }
 lastNumbers (last.Refused r) = record { refused = r .number; line = r .line; mem = 0; cost = 0; looked = 0 }

@@ -2,10 +2,10 @@
 use Prim.Native.Nat.{ℕ, suc, _/_, _%_, _<_}
 use mathlib.Core.List.{List}
 use mathlib.Core.Logic.{_≢_, _⊎_}
-use mathlib.Core.Path.{_≡_, _∙_, ap}
-use lib.ListN.{length, getD, take}
+use mathlib.Core.Path.{_≡_, refl, _∙_, ap}
+use lib.ListN.{length, getD, take, drop}
 use Rattle.model.specs.Columns.{rowBytes, rowAt, rowsOf, bytesOf}
-use Rattle.model.specs.Cycles.{Claim, instruction, isInstruction, instructionPart, instructionClaim}
+use Rattle.model.specs.Cycles.{Cycle, Claim, instruction, isInstruction, part, instructionPart, instructionClaim}
 use Rattle.model.specs.Promises.{WellSized, FirstBroken, Accepted, claimsIn}
 use Rattle.model.specs.State.{fresh}
 use Rattle.model.specs.Tests.{pick}
@@ -15,7 +15,7 @@ use Rattle.model.proofs.InstructionLaws.{is-instruction, claim-is, part-is}
 use Rattle.model.proofs.VerdictLaws.{verdict-broken, refused-length, refused-rows}
 use Rattle.refusal.specs.Refusals.{noRefusal, notAccepted, noInstruction}
 use Rattle.trace.specs.Asked.{Answer, given, refused, ofAccepted, whereIs, partOf, claimIn}
-use Rattle.trace.specs.Told.{refusalOf}
+use Rattle.trace.specs.Told.{refusalOf, toldPlace, PartNumbers, partNumbers}
 use Rattle.trace.proofs.PlaceLaws.{where-none, where-given}
 
 -- ---- the order of refusals
@@ -45,6 +45,18 @@ module _ (l : List ℕ) (k : ℕ) where
   -- and then 12: no instruction k
   pub where-then-none : Accepted l → (k ≡ 0) ⊎ (length (claimsIn l) < k) → whereIs l k ≡ refused noInstruction
   where-then-none a = where-none l a k
+
+-- ---- the part by its numbers
+
+-- the numbers that are told of a part name it: so many bytes of the trace from the first one on
+pub numbers-name-the-part : (l : List ℕ) (k : ℕ)
+    → let x : PartNumbers = partNumbers (toldPlace (whereIs l k)) in take (x .bytes) (drop (x .from) l) ≡ partOf l (whereIs l k)
+unfolding part
+numbers-name-the-part l k = by (whereIs l k)
+  where
+    by : (a : Answer Cycle) → let x : PartNumbers = partNumbers (toldPlace a) in take (x .bytes) (drop (x .from) l) ≡ partOf l a
+    by (given c) = refl
+    by (refused n) = refl
 
 -- ---- instruction suc k of an accepted trace
 

@@ -27,27 +27,31 @@ toldAdmitted (refused n) = admit.Refused (lineless n)
 
 -- ---- where instruction k stands
 
+-- its first row and how many rows it has
 abbrev pub toldPlace : Answer model.Cycle → Place
 toldPlace (given c) = place.At (c .first) (model.rowsIn c)
 toldPlace (refused n) = place.Refused (lineless n)
 
--- the first byte of its part of the trace and the part's length in bytes. On a refusal all other result fields are 0.
+-- the numbers of a refusal, the first byte of the instruction's part of the trace, and the part's length in bytes
 pub record PartNumbers : Type 0 where
   pub refused : ℕ
   pub line : ℕ
   pub from : ℕ
   pub bytes : ℕ
 
+-- on a refusal all other result fields are 0
 abbrev pub partNumbers : Place → PartNumbers
 partNumbers (place.At first rows) = record { refused = 0; line = 0; from = first * rowBytes; bytes = rows * rowBytes }
 partNumbers (place.Refused r) = record { refused = r .number; line = r .line; from = 0; bytes = 0 }
 
 -- ---- its claim
 
+-- its context and both ends
 abbrev pub toldClaimed : Answer model.Claim → Claimed
 toldClaimed (given c) = claimed.Is (toldClaim c)
 toldClaimed (refused n) = claimed.Refused (lineless n)
 
+-- the numbers of a refusal, CN and both ends
 pub record ClaimNumbers : Type 0 where
   pub refused : ℕ
   pub line : ℕ
@@ -55,6 +59,7 @@ pub record ClaimNumbers : Type 0 where
   pub end1 : ℕ
   pub end2 : ℕ
 
+-- on a refusal all other result fields are 0
 abbrev pub claimNumbers : Claimed → ClaimNumbers
 claimNumbers (claimed.Is c) = record { refused = 0; line = 0; cn = c .context .cn; end1 = val (c .end1); end2 = val (c .end2) }
 claimNumbers (claimed.Refused r) = record { refused = r .number; line = r .line; cn = 0; end1 = 0; end2 = 0 }

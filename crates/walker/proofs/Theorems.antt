@@ -1,10 +1,11 @@
 -- A walker over an accepted trace gives its instructions one after another; over other bytes none is opened.
-use Prim.Native.Nat.{ℕ, zero, suc, _/_, _%_, _≤_, _<_}
+use Prim.Native.Nat.{ℕ, zero, suc, _-_, _/_, _%_, _≤_, _<_}
 use mathlib.Core.List.{List, []}
 use mathlib.Core.Logic.{_⊎_}
 use mathlib.Core.Path.{_≡_, refl, sym, _∙_, ap}
+use native.Mathlib.Decide.{ℕ-discrete}
 use native.Mathlib.Omega.{arith}
-use lib.ListN.{length}
+use lib.ListN.{length, take, drop}
 use Rattle.model.specs.Columns.{rowBytes, rowsOf}
 use Rattle.model.specs.Cycles.{instructionPart, nextRow, part, Stepped, step}
 use Rattle.model.specs.Promises.{Accepted, emptyIn, claimsIn}
@@ -12,8 +13,8 @@ use Rattle.model.specs.Verdict.{verdict, broken, maxRows, badLength, tooManyRow
 use Rattle.model.proofs.InstructionLaws.{step-is, step-end}
 use Rattle.model.proofs.VerdictLaws.{refused-length, refused-rows}
 use Rattle.refusal.specs.Refusals.{noRefusal, lineless, notAccepted}
-use Rattle.walker.specs.Walk.{startOf, Begun, begun, firstPart, walk}
-use Rattle.walker.proofs.StepLaws.{step-stays, step-part}
+use Rattle.walker.specs.Walk.{startOf, Begun, begun, firstPart, walk, StepNumbers, stepNumbers}
+use Rattle.walker.proofs.StepLaws.{step-stays, step-part, step-forward, numbers-stay, numbers-move}
 
 -- ---- opened
 
@@ -48,6 +49,24 @@ unfolding firstPart part
 first-refused l m e =
     let stays : 0 ≡ step [] 0 .next = sym (step-stays [] 0 (omega arith)) in
     ap (λ (b : Begun). step (b .trace) (b .next) .part) e ∙ step-part [] 0 0 stays
+
+-- ---- the part of a step by its numbers
+
+-- the numbers that are told of a step name its part: so many bytes of the trace from the first one on
+pub numbers-name-the-part : (l : List ℕ) (i : ℕ)
+    → let x : StepNumbers = stepNumbers i (step l i) in take (x .bytes) (drop (x .from) l) ≡ step l i .part
+unfolding part
+numbers-name-the-part l i = by (ℕ-discrete m i)
+  where
+    m : ℕ
+    m = step l i .next
+
+    named : StepNumbers → List ℕ
+    named x = take (x .bytes) (drop (x .from) l)
+
+    by : Dec (m ≡ i) → named (stepNumbers i (step l i)) ≡ step l i .part
+    by (yes e) = ap named (numbers-stay l i m refl e) ∙ sym (step-part l i 0 (omega (arith, e)))
+    by (no on) = ap named (numbers-move l i m refl on) ∙ sym (step-part l i (m - i) (omega (arith, step-forward l i)))
 
 -- ---- an accepted trace
 module _ (l : List ℕ) (a : Accepted l) where

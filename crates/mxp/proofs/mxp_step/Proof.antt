@@ -2,7 +2,6 @@
 use mathlib.Core.Path.{sym, ap}
 use native.Mathlib.Omega.{arith}
 use borrow.Author.Needs.{needs}
-use Rattle.walker.specs.Walk.{StepNumbers}
 use Rattle.walker.proofs.StepLaws.{step-forward, numbers-stay, numbers-move, moved-inside}
 use Rattle.mxp.specs.Out.{stepList}
 use Rattle.mxp.proofs.mxp_step.Statement.{statement}
