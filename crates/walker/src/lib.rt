@@ -43,7 +43,7 @@ pub fn start_of(t: &[u8]) -> Start
 }
 
 // The bytes that a walker holds: the whole trace, or nothing of it where it was refused.
-pub fn walked<'a>(t: &'a [u8], why: Refusal) -> &'a [u8]
+fn walked<'a>(t: &'a [u8], why: Refusal) -> &'a [u8]
     ensures { λ r. ⌜ now r ≡ walkedBytes (now (t .entry)) why ⌝ }
 {
     if why.number != 0 {
