@@ -10,7 +10,7 @@ use crate::full_size::{all_contexts, empty, in_bounds_of, out_of_bounds};
 use crate::library::{self, Answer};
 
 /// Both are called in turn until so much time has gone, and the quickest time of each counts.
-const LONG_ENOUGH: Duration = Duration::from_millis(1_500);
+const LONG_ENOUGH: Duration = Duration::from_millis(500);
 /// No full-size input may take longer: a bound for sanity, not for speed.
 const TOO_LONG: Duration = Duration::from_secs(10);
 

@@ -1,4 +1,4 @@
--- By what the search found; a found row is one of the trace, by found-before.
+-- By what the search found; a found row is one of the trace (`found-inside`).
 use mathlib.Core.Path.{sym, ap}
 use borrow.Author.Needs.{needs}
 use Rattle.state.specs.declared.look.Search.{Search}
