@@ -1,71 +1,119 @@
 -- What the checker knows at a row gives the row's first broken constraint, and with it what it knows at the next row.
-use Prim.Native.Nat.{ℕ, suc, _+_, _<_}
-use mathlib.Core.Bool.{true}
-use mathlib.Core.Path.{_≡_, refl, sym}
+use Prim.Native.Nat.{ℕ, zero, suc, _+_, _-_, _*_, _<_}
+use mathlib.Core.Bool.{Bool, true, false, not, _&&_}
+use mathlib.Core.List.{List}
+use mathlib.Core.Logic.{_≢_}
+use mathlib.Core.Path.{_≡_, refl, sym, _∙_, ap, subst}
+use native.Mathlib.Nat.{lt-suc-self}
 use native.Mathlib.Numerals.{add-one}
 use native.Mathlib.Omega.{arith}
-use lib.Dec.{eqb}
-use Rattle.model.specs.Columns.{Cells, emptyRow, table}
-use Rattle.model.specs.Constraints.{inUse, k3, k4, k9, k25, constraintsBy, firstFailed, firstBroken}
+use borrow.Author.Tests.{ne-eqb}
+use lib.Dec.{eqb, eqb·suc-zero}
+use Rattle.model.specs.Columns.{Cells, emptyRow, rowBytes, rowAt, table}
+use Rattle.model.specs.Constraints.{inUse, k3, k4, k9, k15, k16, k17, k25, constraintsBy, constraint, firstFailed, firstBroken}
 use Rattle.model.specs.State.{contextOf}
-use Rattle.model.specs.Cycles.{counts}
-use Rattle.model.specs.Verdict.{rowBefore, before, brokenAt, judged, meet, break, verdictBy, maxRows}
+use Rattle.model.specs.Cycles.{starts, counts}
+use Rattle.model.specs.Tests.{bit}
+use Rattle.model.specs.Verdict.{rowBefore, before, brokenAt, judged, meet, verdictBy, maxRows}
 use Rattle.model.proofs.JudgeLaws.{judged-stops}
+use Rattle.model.proofs.RowFacts.{of-within}
+use Rattle.model.proofs.TestFacts.{_&_}
 use Rattle.model.proofs.VerdictLaws.{judged-meet}
+use Rattle.meets.specs.Groups.{Chosen}
 use Rattle.rules.proofs.FirstLaws.{nine-matters-not}
-use Rattle.state.specs.Look.{lookBack}
+use Rattle.recent.specs.Notes.{Notes, recalled}
+use Rattle.recent.proofs.NoteLaws.{recalled-before}
+use Rattle.row.specs.Plain.{from}
+use Rattle.row.proofs.PlaceLaws.{from-row}
 use Rattle.state.proofs.LookLaws.{look-before}
 use Rattle.checker.specs.Answer.{told}
-use Rattle.checker.specs.Rows.{InHand, asked, counted, plainCounts}
+use Rattle.checker.specs.Rows.{asked, firstAt, counted, plainCounts}
 use Rattle.checker.specs.declared.Counts.{Counts}
 use Rattle.checker.specs.declared.Verdict.the-variants.{Accepted, Broken}
 use Rattle.checker.proofs.CountLaws.{counts-next, counts-below}
 use Rattle.checker.proofs.StartLaws.{between, asked-where-starts, used-stamp}
 
 module _ (r : ℕ → Cells) (n : ℕ) where
-  -- on a row that meets 3 and 4, the answer to 9 that the look-up gives is that of the model's state
-  nine-is : (i : ℕ) → judged (brokenAt r n) i ≡ meet → (x : Cells) → k3 (eqb i 0) (rowBefore r i) x ≡ true → k4 (rowBefore r i) x ≡ true
-      → inUse x ≡ true → asked r i (rowBefore r i) x ≡ k9 (before r i (contextOf x)) x
-  unfolding asked
-  nine-is i m x h3 h4 u =
-      asked-where-starts x (lookBack r (contextOf x) (rowBefore r i .stamp) i .state) (before r i (contextOf x)) u
-      (λ z. look-before r n (contextOf x) i (judged-meet r n i .0 m) (between r i x h3 h4 (used-stamp x u) z))
+  module _ (notes : List ℕ) (i : ℕ) (meets : judged (brokenAt r n) i ≡ meet) (noted : Notes notes r i) where
+    -- on a row that meets 3 and 4, the answer to 9 that the notes give is that of the model's state
+    nine-is : k3 (eqb i 0) (rowBefore r i) (r i) ≡ true → k4 (rowBefore r i) (r i) ≡ true → inUse (r i) ≡ true
+        → asked r notes (rowBefore r i .stamp) i ≡ k9 (before r i (contextOf (r i))) (r i)
+    unfolding asked
+    nine-is h3 h4 u =
+        asked-where-starts (r i) (recalled r notes (contextOf (r i)) (rowBefore r i .stamp) i) (before r i (contextOf (r i))) u
+        (λ z. recalled-before noted (contextOf (r i)) (rowBefore r i .stamp)
+        (look-before r n (contextOf (r i)) i (judged-meet r n i .0 meets) (between r i (r i) h3 h4 (used-stamp (r i) u) z)))
 
-  -- the first constraint that fails, with 9 asked of the look-up, is the row's first broken one
-  pub broken-is : (i : ℕ) (a b x : Cells) → InHand r n i a b → x ≡ r i
-      → firstFailed 1 (constraintsBy a b x (eqb i 0) (eqb (i + 1) n) (asked r i b x) (k25 x)) ≡ brokenAt r n i
-  unfolding brokenAt firstBroken
-  broken-is i a b x h e =
-      rw (h .two, h .one, e, add-one i)
-      (nine-matters-not (rowBefore (rowBefore r) i) (rowBefore r i) (r i) (eqb i 0) (eqb (suc i) n) (asked r i (rowBefore r i) (r i))
-      (k9 (before r i (contextOf (r i))) (r i)) (k25 (r i)) (nine-is i (h .meets) (r i)))
+    -- the first constraint that fails, with 9 asked of the notes, is the row's first broken one
+    pub broken-is : firstAt r n (asked r notes (rowBefore r i .stamp) i) i ≡ brokenAt r n i
+    unfolding firstAt brokenAt firstBroken
+    broken-is =
+        rw (add-one i)
+        (nine-matters-not (rowBefore (rowBefore r) i) (rowBefore r i) (r i) (eqb i 0) (eqb (suc i) n) (asked r notes (rowBefore r i .stamp) i)
+        (k9 (before r i (contextOf (r i))) (r i)) (k25 (r i)) nine-is)
 
-  -- before the first row
-  pub hand-first : (a b : Cells) → a ≡ emptyRow → b ≡ emptyRow → InHand r n 0 a b
+  -- before the first row all rows meet the constraints
+  pub meets-first : judged (brokenAt r n) 0 ≡ meet
   unfolding judged
-  hand-first a b e f = record { two = e; one = f; meets = refl }
+  meets-first = refl
 
-  -- after a row that meets all constraints
-  pub hand-next : (i : ℕ) (a b x : Cells) → InHand r n i a b → x ≡ r i → brokenAt r n i ≡ 0 → InHand r n (i + 1) b x
+  -- and after a row that does
+  pub meets-next : (i : ℕ) → judged (brokenAt r n) i ≡ meet → brokenAt r n i ≡ 0 → judged (brokenAt r n) (i + 1) ≡ meet
   unfolding judged
-  hand-next i a b x h e z = rw (add-one i) (record { two = h .one; one = e; meets = rw (h .meets, z) })
-
-  -- a row that breaks one ends the judgement
-  pub hand-stops : (i k : ℕ) (a b : Cells) → i < n → InHand r n i a b → k ≡ brokenAt r n i → 0 < k → judged (brokenAt r n) n ≡ break i k
-  hand-stops i k a b l h e p = judged-stops (brokenAt r n) n i k .1 (l, record { from = p; number = sym e; earlier = h .meets })
+  meets-next i m z = rw (add-one i) (rw (m, z))
 
   -- the answer where a row breaks a constraint
-  pub told-broken : (i k : ℕ) (a b : Cells) → i < n → InHand r n i a b → k ≡ brokenAt r n i → 0 < k
+  pub told-broken : (i k : ℕ) → i < n → judged (brokenAt r n) i ≡ meet → k ≡ brokenAt r n i → 0 < k
       → Broken i k ≡ told (verdictBy (judged (brokenAt r n) n) (counts (table n r)))
-  told-broken i k a b l h e p = rw (hand-stops i k a b l h e p)
+  told-broken i k l m e p = rw (judged-stops (brokenAt r n) n i k .1 (l, record { from = p; number = sym e; earlier = m }))
 
   -- the answer where all rows meet all of them
-  pub told-accepted : (c : Counts) (i : ℕ) (a b : Cells) → i ≡ n → InHand r n i a b → plainCounts c ≡ counts (table i r)
+  pub told-accepted : (c : Counts) (i : ℕ) → i ≡ n → judged (brokenAt r n) i ≡ meet → plainCounts c ≡ counts (table i r)
       → Accepted c ≡ told (verdictBy (judged (brokenAt r n) n) (counts (table n r)))
-  told-accepted c i a b l h e =
-      let m : judged (brokenAt r n) n ≡ meet = rw l at (h .meets) in
+  told-accepted c i l h e =
+      let m : judged (brokenAt r n) n ≡ meet = rw l at h in
       let k : plainCounts c ≡ counts (table n r) = rw l at e in
       rw (m, ← k)
+
+-- before the first row stands a row of zeros
+pub none-before : (r : ℕ → Cells) (i : ℕ) → i ≡ 0 → emptyRow ≡ rowBefore r i
+none-before r zero e = refl
+none-before r (suc i) e = absurd (omega arith)
+
+-- and before any other the row with the number before
+pub one-before : (r : ℕ → Cells) (i : ℕ) → i ≢ 0 → r (i - 1) ≡ rowBefore r i
+one-before r zero some = absurd (some refl)
+one-before r (suc i) some = ap r (omega arith)
+
+-- the first constraint that row i breaks, by the three rows that are looked at and the answer to 25
+pub first-of-rows : (r : ℕ → Cells) (n i : ℕ) (nine twentyFive : Bool) (a b x : Cells) (k : ℕ) → a ≡ rowBefore (rowBefore r) i → b ≡ rowBefore r i → x ≡ r i
+    → twentyFive ≡ k25 x → k ≡ firstFailed 1 (constraintsBy a b x (eqb i 0) (eqb (i + 1) n) nine twentyFive) → k ≡ firstAt r n nine i
+unfolding firstAt
+first-of-rows r n i nine twentyFive a b x k e f g h m = rw (← e, ← f, ← g, ← h) m
+
+-- a row that meets all constraints meets 15 to 17
+pub chosen-before : (r : ℕ → Cells) (n i : ℕ) → judged (brokenAt r n) (suc i) ≡ meet → Chosen (r i)
+unfolding constraint
+chosen-before r n i m used ooob =
+    let holds = judged-meet r n (suc i) .0 m i (lt-suc-self i) in
+    let within = of-within (r i) (used-stamp (r i) used) ooob in
+    (within (k15 (r i)) (holds 15 (omega arith) (omega arith)) & within (k16 (r i)) (holds 16 (omega arith) (omega arith)))
+    & within (k17 (r i)) (holds 17 (omega arith) (omega arith))
+
+-- a row that is told apart by its bytes meets all constraints, if the rows before it do, there are two of them and there is one after it
+pub met-by-bytes : (l : List ℕ) (n i : ℕ) (nine : Bool) → judged (brokenAt (rowAt l) n) i ≡ meet → 1 < i → i + 1 < n
+    → (Chosen (from l (i * rowBytes - rowBytes)) → firstFailed 1 (constraintsBy (from l (i * rowBytes - rowBytes - rowBytes)) (from l (i * rowBytes - rowBytes))
+    (from l (i * rowBytes)) false false nine (k25 (from l (i * rowBytes)))) ≡ 0)
+    → 0 ≡ firstAt (rowAt l) n nine i
+met-by-bytes l n zero nine m some last h = absurd (omega arith)
+met-by-bytes l n (suc zero) nine m some last h = absurd (omega arith)
+met-by-bytes l n (suc (suc j)) nine m some last h =
+    let one : suc (suc j) * rowBytes - rowBytes ≡ suc j * rowBytes = omega arith in
+    let two : suc (suc j) * rowBytes - rowBytes - rowBytes ≡ j * rowBytes = omega arith in
+    let before = ap (from l) one ∙ from-row l (suc j) in
+    let more : eqb (suc (suc j) + 1) n ≡ false = ne-eqb (suc (suc j) + 1) n (λ e. absurd (omega (arith, last, e))) in
+    first-of-rows (rowAt l) n (suc (suc j)) nine _ _ _ _ 0 (ap (from l) two ∙ from-row l j) before (from-row l (suc (suc j))) refl
+    (rw (eqb·suc-zero (suc j), more) (sym (h (subst Chosen (sym before) (chosen-before (rowAt l) n (suc j) m)))))
 
 -- each count has room for one more
 pub record Room (c : Counts) : Type 0 where
@@ -82,3 +130,12 @@ room r i c l e =
 pub counted-next : (r : ℕ → Cells) (i : ℕ) (c d : Counts) (x : Cells) → plainCounts c ≡ counts (table i r) → x ≡ r i
     → plainCounts d ≡ counted (plainCounts c) x → plainCounts d ≡ counts (table (i + 1) r)
 counted-next r i c d x e f g = rw (add-one i, counts-next r i, ← e, ← f) g
+
+-- the counts by a row's cells are those by the row
+pub counted-cells : (c d : Counts) (y : Cells) (stamp ooob ct : ℕ) → stamp ≡ y .stamp → ooob ≡ y .ooob → ct ≡ y .ct
+    → (d .instructions ≡ c .instructions + bit (not (eqb stamp 0) && eqb ct 0))
+    × (d .oob ≡ c .oob + bit ((not (eqb stamp 0) && eqb ct 0) && eqb ooob 1))
+    × (d .empty ≡ c .empty + bit (not (not (eqb stamp 0))))
+    → plainCounts d ≡ counted (plainCounts c) y
+unfolding starts inUse
+counted-cells c d y stamp ooob ct e f g (a, b, z) = rw (a, b, z, e, f, g)

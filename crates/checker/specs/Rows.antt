@@ -1,15 +1,15 @@
 -- What the checker works out and knows as it goes from row to row.
 use Prim.Native.Nat.{ℕ, _+_}
 use mathlib.Core.Bool.{Bool, true, not, _&&_}
-use mathlib.Core.Path.{_≡_}
+use mathlib.Core.List.{List}
 use lib.Dec.{eqb}
 use Rattle.model.specs.Columns.{Cells}
-use Rattle.model.specs.Constraints.{k9, inUse}
+use Rattle.model.specs.Constraints.{k9, k25, inUse, constraintsBy, firstFailed}
 use Rattle.model.specs.Cycles as model
 use Rattle.model.specs.State.{contextOf}
 use Rattle.model.specs.Tests.{pick, bit}
-use Rattle.model.specs.Verdict.{rowBefore, brokenAt, judged, meet}
-use Rattle.state.specs.Look.{lookBack}
+use Rattle.model.specs.Verdict.{rowBefore}
+use Rattle.recent.specs.Notes.{recalled}
 use Rattle.checker.specs.declared.Counts.{Counts}
 
 -- the counts, as the model has them
@@ -24,13 +24,11 @@ counted c x = record {
   empty = c .empty + bit (not (inUse x));
 }
 
--- the answer to constraint 9 for row i, which is x and comes after b: it is asked where a cycle starts, of the state that the look-up finds. STAMP
--- of the row before counts the cycles before.
-unfoldable pub asked : (ℕ → Cells) → (i : ℕ) → (b x : Cells) → Bool
-asked r i b x = pick (model.starts x) (k9 (lookBack r (contextOf x) (b .stamp) i .state) x) true
+-- the answer to constraint 9 for row i: it is asked where a cycle starts, of the state that the notes on the rows before and else the look-up show.
+-- There are `cycles` cycles before the row.
+unfoldable pub asked : (ℕ → Cells) → (notes : List ℕ) → (cycles i : ℕ) → Bool
+asked r notes cycles i = pick (model.starts (r i)) (k9 (recalled r notes (contextOf (r i)) cycles i) (r i)) true
 
--- where row i of n is judged: a and b are the rows two before it and one before it, and the rows below it meet the constraints
-pub record InHand (r : ℕ → Cells) (n i : ℕ) (a b : Cells) : Type 0 where
-  pub two : a ≡ rowBefore (rowBefore r) i
-  pub one : b ≡ rowBefore r i
-  pub meets : judged (brokenAt r n) i ≡ meet
+-- the first constraint that row i of n breaks, where the answer to 9 is known
+unfoldable pub firstAt : (ℕ → Cells) → (n : ℕ) → (nine : Bool) → (i : ℕ) → ℕ
+firstAt r n nine i = firstFailed 1 (constraintsBy (rowBefore (rowBefore r) i) (rowBefore r i) (r i) (eqb i 0) (eqb (i + 1) n) nine (k25 (r i)))

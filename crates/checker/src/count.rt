@@ -1,19 +1,47 @@
 // The counts of a trace, row by row. Only crates of this repository call these functions.
 ghost use mathlib.Core.Path.{_≡_};
-ghost use Prim.Native.Nat.{_<_};
+ghost use mathlib.Core.Bool.{not, _&&_};
+ghost use Prim.Native.Nat.{_+_, _<_};
+ghost use lib.Dec.{eqb};
 ghost use Rattle.model.specs.Cycles.{starts};
+ghost use Rattle.model.specs.Tests as tests;
 ghost use Rattle.model.specs.Verdict.{maxRows};
 ghost use Rattle.row.specs.Plain.{plain};
 ghost use Rattle.checker.specs.Rows.{counted, plainCounts};
 use crate::Counts;
 use row::cells::Row;
-use rules::words::bit;
+use words::bit;
+
+// Whether a cycle starts with a row that has this STAMP and CT.
+pub fn is_start(stamp: u32, ct: u8) -> bool
+    ensures { λ r. ⌜ r ≡ (not (eqb stamp 0) && eqb ct 0) ⌝ }
+{
+    (stamp != 0) & (ct == 0)
+}
 
 // Whether a cycle starts with the row.
 pub fn starts_cycle(x: Row) -> bool
     ensures { λ r. ⌜ r ≡ starts (plain x) ⌝ }
 {
-    (x.head.stamp != 0) & (x.head.ct == 0)
+    is_start(x.head.stamp, x.head.ct)
+}
+
+// One more row counted, which has this STAMP, OOOB and CT.
+pub fn count_cells(c: Counts, stamp: u32, ooob: u8, ct: u8) -> Counts
+    requires { ⌜ c .instructions < maxRows ⌝ }
+    requires { ⌜ c .oob < maxRows ⌝ }
+    requires { ⌜ c .empty < maxRows ⌝ }
+    ensures { λ r. ⌜ (r .instructions ≡ c .instructions + tests.bit (not (eqb stamp 0) && eqb ct 0))
+        × (r .oob ≡ c .oob + tests.bit ((not (eqb stamp 0) && eqb ct 0) && eqb ooob 1))
+        × (r .empty ≡ c .empty + tests.bit (not (not (eqb stamp 0)))) ⌝ }
+{
+    let used = stamp != 0;
+    let starts = is_start(stamp, ct);
+    Counts {
+        instructions: c.instructions + bit(starts),
+        oob: c.oob + bit(starts & (ooob == 1)),
+        empty: c.empty + bit(!used),
+    }
 }
 
 // One more row counted.
@@ -23,11 +51,5 @@ pub fn count_row(c: Counts, x: Row) -> Counts
     requires { ⌜ c .empty < maxRows ⌝ }
     ensures { λ r. ⌜ plainCounts r ≡ counted (plainCounts c) (plain x) ⌝ }
 {
-    let used = x.head.stamp != 0;
-    let starts = starts_cycle(x);
-    Counts {
-        instructions: c.instructions + bit(starts),
-        oob: c.oob + bit(starts & (x.head.ooob == 1)),
-        empty: c.empty + bit(!used),
-    }
+    count_cells(c, x.head.stamp, x.head.ooob, x.head.ct)
 }

@@ -10,6 +10,7 @@ use lib.Dec.{eqb, ltb, lit<}
 use Rattle.number.specs.Tests.{pick}
 use Rattle.number.proofs.LongLaws.{whole-long}
 use Rattle.number.proofs.TestLaws.{both, both-intro, either}
+use Rattle.opcode.specs.Opcodes.{unlisted, touchesNothing, touchesWord, touchesByte, touchesRange, categoryOf}
 use Rattle.gas.specs.Gas.{wordBytes, rangeEnd}
 use Rattle.model.specs.Promises.{ValidClaim}
 use Rattle.refusal.specs.Refusals.{cnZero, notListed, unusedField}
@@ -17,7 +18,6 @@ use Rattle.claim.specs.Claims.{end1, end2, claimOf}
 use Rattle.claim.specs.Instruction.{Fields, Range, Touched, nothing, one, two, Instruction, Use, useOf, unusedZero, used}
 use Rattle.claim.specs.Instruction.{instructionOf, Decoded, decoded, refused, decode, UnusedZero, Sized}
 use Rattle.claim.specs.Instruction.{Answer, cn-zero, not-listed, unused-field, instruction}
-use Rattle.claim.specs.Opcodes.{unlisted, touchesNothing, touchesWord, touchesByte, touchesRange, categoryOf}
 use Rattle.claim.specs.Told.{toldTouched, plainTouched, toldInstruction, plainInstruction}
 
 -- ---- the answer for a line

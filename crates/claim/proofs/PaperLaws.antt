@@ -10,11 +10,13 @@ use borrow.Author.Tests.{eqb-true}
 use lib.Dec.{eqb}
 use lib.ListN.{length, getD, take}
 use Rattle.number.specs.Tests.{pick}
+use Rattle.opcode.specs.Opcodes.{unlisted, among, categoryOf}
+use Rattle.opcode.proofs.TableLaws.{exactly-listed}
 use Rattle.gas.specs.Gas.{words, rangeEnd}
 use Rattle.gas.specs.Paper.{M}
 use Rattle.gas.proofs.PaperLaws.{words-paper}
 use Rattle.model.specs.Alone.{paperWords, ByPaper}
-use Rattle.model.specs.Columns.{Cells, table, rowAt, rowsOf}
+use Rattle.model.specs.Columns.{Cells, rowAt, rowsOf}
 use Rattle.model.specs.Cycles.{Claim, instruction, instructionClaim}
 use Rattle.model.specs.Promises.{Carries, claimsIn}
 use Rattle.model.specs.State.{Context}
@@ -22,10 +24,8 @@ use Rattle.model.specs.Trace.{lastOf}
 use Rattle.model.proofs.InstructionLaws.{claim-is, by-paper}
 use Rattle.claim.specs.Claims.{end1, end2, claimOf}
 use Rattle.claim.specs.Instruction.{Fields, Touched, nothing, one, two, Instruction, useOf, used, decoded, decode}
-use Rattle.claim.specs.Opcodes.{unlisted, among, categoryOf}
 use Rattle.claim.specs.Paper.{Entry, entry, paper, wordsBy, paperAfter, paperOver, Decodes, none, more, contextOf, LineByPaper}
 use Rattle.claim.proofs.ClaimLaws.{read}
-use Rattle.claim.proofs.TableLaws.{exactly-listed}
 
 -- ---- the Paper's table has the opcodes that we list
 
@@ -39,7 +39,7 @@ paper-entries = refl
 
 -- it has an entry for an opcode exactly if that has a category
 pub paper-covers : (op : ℕ) → (among op opcodes ≡ true) ↔ (categoryOf op ≢ unlisted)
-unfolding categoryOf table
+unfolding categoryOf
 paper-covers = exactly-listed opcodes tt tt
 
 -- ---- one instruction

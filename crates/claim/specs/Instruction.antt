@@ -5,10 +5,10 @@ use mathlib.Core.Logic.{_≢_}
 use mathlib.Core.Path.{_≡_}
 use lib.Dec.{eqb, ltb}
 use Rattle.number.specs.Tests.{pick}
+use Rattle.opcode.specs.Opcodes.{unlisted, touchesNothing, touchesWord, touchesByte, touchesRange, categoryOf}
 use Rattle.gas.specs.Gas.{wordBytes}
 use Rattle.model.specs.State.{Context}
 use Rattle.refusal.specs.Refusals.{cnZero, notListed, unusedField}
-use Rattle.claim.specs.Opcodes.{unlisted, touchesNothing, touchesWord, touchesByte, touchesRange, categoryOf}
 
 -- the fields of a line, in their order
 pub record Fields : Type 0 where

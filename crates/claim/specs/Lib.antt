@@ -1,4 +1,3 @@
-pub mod Opcodes
 pub mod Instruction
 pub mod Claims
 pub mod Paper

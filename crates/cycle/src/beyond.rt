@@ -25,8 +25,8 @@ use row::cells::Body;
 use row::cells::Head;
 use row::cells::Row;
 use row::cells::empty_row;
-use row::write::put_row;
 use state::State;
+use writer::put_row;
 
 // How far the first end that is out of bounds is beyond the bound.
 fn beyond_by(c: Claim) -> Wide

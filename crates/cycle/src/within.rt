@@ -27,8 +27,8 @@ use row::cells::Body;
 use row::cells::Head;
 use row::cells::Row;
 use row::cells::Tail;
-use row::write::put_row;
 use state::State;
+use writer::put_row;
 
 // What the first byte of four counts.
 const FIRST_OF_FOUR: u32 = BASE * BASE * BASE;

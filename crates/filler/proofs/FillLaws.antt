@@ -7,8 +7,8 @@ use native.Mathlib.Nat.{zero-add, ne-of-gt, pos-of-ne-zero}
 use native.Mathlib.Omega.{arith}
 use borrow.Author.Tests.{eq-eqb, ne-eqb, eqb-false, lt-ltb, le-ltb, ltb-false}
 use lib.Dec.{eqb, ltb}
-use lib.ListN.{length, replicate, length-replicate}
-use lib.Seq.{sets, sets-eq}
+use lib.ListN.{length, take, drop, replicate, length-replicate}
+use lib.Seq.{sets, sets-eq, take-at}
 use Rattle.number.specs.Tests.{pick}
 use Rattle.number.proofs.StoreLaws.{sets-append}
 use Rattle.number.proofs.TestLaws.{clash}
@@ -151,6 +151,14 @@ module _ (room empty n : ℕ) (cs : List Claim) (rows : n ≡ cycleRows cs) (som
 -- the bytes of a trace, stored at the start of a buffer with room for them: the later bytes stay
 stored : (l : List ℕ) (rows : List Cells) → length rows * rowBytes ≤ length l → sets l 0 (bytesOf rows) ≡ bufferAfter (written rows) l
 stored l rows h = rw (sets-eq (bytesOf rows) l 0 (omega (arith, length-bytes rows)), zero-add, length-bytes)
+
+-- empty rows, once they are stored, are the first bytes
+pub empty-stored : {m : List ℕ} (l : List ℕ) (n : ℕ) → n * rowBytes ≤ length l → m ≡ sets l 0 (bytesOf (replicate n emptyRow))
+    → take (n * rowBytes) m ≡ bytesOf (replicate n emptyRow)
+empty-stored l n h e =
+    let rows : List Cells = replicate n emptyRow in
+    let count : length rows ≡ n = length-replicate n emptyRow in
+    rw (e, stored l rows (rw count h)) (take-at (bytesOf rows) (drop (length rows * rowBytes) l) (n * rowBytes) (rw count at (length-bytes rows)))
 
 -- the empty rows, then the cycles
 pub filled-buffer : {m k : List ℕ} (l : List ℕ) (empty : ℕ) (cs : List Claim) → (empty + cycleRows cs) * rowBytes ≤ length l

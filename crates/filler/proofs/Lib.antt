@@ -1,5 +1,6 @@
 pub mod ReadLaws
 pub mod MeasureLaws
+pub mod RecallLaws
 pub mod WriteLaws
 pub mod FillLaws
 pub mod Theorems

@@ -1,14 +1,14 @@
 // The second reading of a list: its trace is written, cycle by cycle.
 ghost use mathlib.Core.Path.{_≡_};
 ghost use Prim.Native.Nat.{suc, _+_, _*_, _≤_, _<_};
-ghost use lib.ListN.{length, replicate};
+ghost use lib.ListN.{length, replicate, take};
 ghost use lib.Seq.{sets};
 ghost use Rattle.model.specs.Columns.{emptyRow, rowBytes, rowAt, bytesOf};
 ghost use Rattle.model.specs.State.{Sound, fresh};
 ghost use Rattle.model.specs.Trace.{lastOf, cycleOf, cyclesOf};
 ghost use Rattle.model.specs.Verdict.{maxRows};
-ghost use Rattle.state.specs.Look.{lookBack};
 ghost use Rattle.state.specs.Plain.{context};
+ghost use Rattle.recent.specs.Notes.{Notes, recalled};
 ghost use Rattle.claim.specs.Told.{plainClaim};
 ghost use Rattle.filler.specs.Lines.{Lists, listClaims, cycleRows};
 use claim::claim::Claim;
@@ -18,7 +18,9 @@ use cycle::rows_of;
 use list::Next;
 use list::next_line;
 use model::ROW_BYTES;
-use state::look::state_before;
+use recent::SLOTS;
+use recent::note;
+use recent::recall;
 
 // Writes so many empty rows, from the first on.
 pub(crate) fn put_empty(buf: &mut [u8], rows: usize)
@@ -33,27 +35,30 @@ pub(crate) fn put_empty(buf: &mut [u8], rows: usize)
     }
 }
 
-// Writes the cycle of one claim more from this row on, behind so many cycles: its context has the state that the latest of them with it leaves.
-fn put_claim(buf: &mut [u8], row: usize, cycles: usize, c: Claim)
+// Writes the cycle of one claim more from this row on, behind so many cycles: its context has the state that is recalled by the notes on the rows before.
+fn put_claim(buf: &mut [u8], notes: &[u32; SLOTS], row: usize, cycles: usize, c: Claim)
     requires { ⌜ (row + suc (lastOf (plainClaim c))) * rowBytes ≤ length (now buf) ⌝ }
     requires { ⌜ cycles < maxRows ⌝ }
-    requires { ⌜ Sound (lookBack (rowAt (now buf)) (context (c .context)) cycles row .state) ⌝ }
+    requires { ⌜ Notes (now notes) (rowAt (now buf)) row ⌝ }
+    requires { ⌜ Sound (recalled (rowAt (now buf)) (now notes) (context (c .context)) cycles row) ⌝ }
     ensures { λ _. ⌜ now (buf .exit) ≡ sets (now (buf .entry)) (row * rowBytes)
-        (bytesOf (cycleOf (suc cycles) (lookBack (rowAt (now (buf .entry))) (context (c .context)) cycles row .state) (plainClaim c))) ⌝ }
+        (bytesOf (cycleOf (suc cycles) (recalled (rowAt (now (buf .entry))) (now (notes .entry)) (context (c .context)) cycles row) (plainClaim c))) ⌝ }
 {
     let own = c.context;
-    let looked = state_before(buf, row, cycles, own);
-    let before = looked.state;
+    let before = recall(buf, notes, row, cycles, own);
     put_cycle(buf, row, cycles as u32 + 1, before, c);
 }
 
-// Writes the cycles of a list of so many lines from this row on.
+// Writes the cycles of a list of so many lines from this row on, behind empty rows.
 pub(crate) fn put_lines(list: &[u8], lines: usize, buf: &mut [u8], first: usize)
     requires { ⌜ Lists (now list) lines ⌝ }
+    requires { ⌜ 0 < first ⌝ }
+    requires { ⌜ take (first * rowBytes) (now buf) ≡ bytesOf (replicate first emptyRow) ⌝ }
     requires { ⌜ first + cycleRows (listClaims (now list)) ≤ maxRows ⌝ }
     requires { ⌜ (first + cycleRows (listClaims (now list))) * rowBytes ≤ length (now buf) ⌝ }
     ensures { λ _. ⌜ now (buf .exit) ≡ sets (now (buf .entry)) (first * rowBytes) (bytesOf (cyclesOf 1 fresh (listClaims (now (list .entry))))) ⌝ }
 {
+    let mut notes: [u32; SLOTS] = [0; SLOTS];
     let mut at: usize = 0;
     let mut row = first;
     let mut done: usize = 0;
@@ -64,8 +69,9 @@ pub(crate) fn put_lines(list: &[u8], lines: usize, buf: &mut [u8], first: usize)
             return;
         };
         let c = claim_of(instruction);
-        put_claim(buf, row, done, c);
+        put_claim(buf, &notes, row, done, c);
         row += rows_of(c);
+        note(&mut notes, c.context, row - 1);
         at = next;
         done += 1;
     }

@@ -1,4 +1,4 @@
-// Runs `number` and `gas` on the vectors of data/, whose answers were worked out apart from them. Prints each cost, and for
+// Runs `number`, `cell` and `gas` on the vectors of data/, whose answers were worked out apart from them. Prints each cost, and for
 // each file how many vectors it has and how many of them are wrong: none, or in a file of wrong answers all.
 ghost use mathlib.Core.Path.{_≡_};
 ghost use mathlib.Core.Bool.{true};
@@ -7,13 +7,13 @@ ghost use lib.ListN.{length};
 ghost use lib.Seq.{sets};
 ghost use Rattle.number.specs.Cells.{encode, decode};
 ghost use Rattle.ground.specs.Agree.{agrees, bit, costsAgree, splitsAgree, ordersAgree, stepsAgree, differencesAgree, cellsAgree, widths, vectorBytes, Tallied};
+use cell::read::u8_at;
+use cell::read::u24_at;
+use cell::read::u32_at;
+use cell::read::wide_at;
 use gas::Bytes;
 use gas::Words;
 use libc::STDOUT_FILENO;
-use number::read::u8_at;
-use number::read::u24_at;
-use number::read::u32_at;
-use number::read::wide_at;
 use number::wide::in_bounds;
 use number::wide::is_next;
 use number::wide::less;
@@ -104,10 +104,10 @@ fn copy_cells(t: &[u8], p: usize, out: &mut [u8])
     requires { ⌜ 25 ≤ length (now out) ⌝ }
     ensures { λ _. ⌜ now (out .exit) ≡ sets (now (out .entry)) 0 (encode widths (decode widths (now (t .entry)) p)) ⌝ }
 {
-    number::write::put_u8(out, 0, u8_at(t, p));
-    number::write::put_u24(out, 1, u24_at(t, p + 1));
-    number::write::put_u32(out, 4, u32_at(t, p + 4));
-    number::write::put_wide(out, 8, wide_at(t, p + 8));
+    cell::write::put_u8(out, 0, u8_at(t, p));
+    cell::write::put_u24(out, 1, u24_at(t, p + 1));
+    cell::write::put_u32(out, 4, u32_at(t, p + 4));
+    cell::write::put_wide(out, 8, wide_at(t, p + 8));
 }
 
 // Whether the four cells at p, read and written, are the bytes that stand there. By the contracts they are; a run sees

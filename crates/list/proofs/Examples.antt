@@ -1,12 +1,12 @@
 -- Worked examples of lists, which the prover computes.
 use mathlib.Core.List.{[], _∷_}
 use mathlib.Core.Path.{_≡_, refl}
+use Rattle.opcode.specs.Opcodes.{categoryOf}
 use Rattle.form.specs.Ascii.{ascii}
 use Rattle.form.specs.Form.{readField, readForm}
 use Rattle.form.specs.Hex.{isDigit, digitOf}
 use Rattle.form.specs.Read.{readText, run, readDigits, readNumber}
 use Rattle.claim.specs.Instruction.{Instruction, nothing, useOf, unusedZero, decode}
-use Rattle.claim.specs.Opcodes.{categoryOf}
 use Rattle.list.specs.Line.{readLine}
 use Rattle.list.specs.List.{instructions, refusedIn, nextLine, listFrom, readList}
 

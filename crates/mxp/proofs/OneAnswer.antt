@@ -6,7 +6,7 @@ use denote.Triple.Clauses.{AtExit}
 use mathlib.Core.Path.{_≡_, sym, _∙_, ap}
 use lib.ListN.{length}
 use Rattle.filler.specs.Fill.{outcome, bufferAfter}
-use Rattle.mxp.specs.Out.{checkOut, fillOut, rowsOut, claimOut, lastOut, openOut, stepOut, nextOut}
+use Rattle.mxp.specs.Out.{checkOut, fillOut, rowsOut, claimOut, lastOut, openOut, stepOut}
 use Rattle.mxp.proofs.mxp_check.Kinds as kinds
 use Rattle.mxp.proofs.mxp_check.Reads as reads
 use Rattle.mxp.proofs.mxp_fill.Kinds as fill-kinds
@@ -21,8 +21,6 @@ use Rattle.mxp.proofs.mxp_open.Kinds as open-kinds
 use Rattle.mxp.proofs.mxp_open.Reads as open-reads
 use Rattle.mxp.proofs.mxp_step.Kinds as step-kinds
 use Rattle.mxp.proofs.mxp_step.Reads as step-reads
-use Rattle.mxp.proofs.mxp_next_line.Kinds as next-kinds
-use Rattle.mxp.proofs.mxp_next_line.Reads as next-reads
 
 -- two calls of `mxp_check` that were lent the same bytes leave the same numbers
 pub one-check : (κs λs : Lfts 2) (a : Dens κs kinds.ps) (b : Dens λs kinds.ps)
@@ -70,10 +68,3 @@ pub one-step : (κs λs : Lfts 2) (a : Dens κs step-kinds.ps) (b : Dens λs ste
     (e : AtExit (endedOf 2 step-kinds.ps step-kinds.r) κs) (f : AtExit (endedOf 2 step-kinds.ps step-kinds.r) λs)
     → now (a .0) ≡ now (b .0) → a .1 .0 ≡ b .1 .0 → step-reads.Post κs a tt e → step-reads.Post λs b tt f → now (e .1 .1 .0) ≡ now (f .1 .1 .0)
 one-step κs λs a b e f same next p q = p ∙ (λ i. stepOut (same i) (next i)) ∙ sym q
-
--- two calls of `mxp_next_line` that were lent the same text and given the same place and line number leave the same numbers
-pub one-line : (κs λs : Lfts 2) (a : Dens κs next-kinds.ps) (b : Dens λs next-kinds.ps)
-    (e : AtExit (endedOf 2 next-kinds.ps next-kinds.r) κs) (f : AtExit (endedOf 2 next-kinds.ps next-kinds.r) λs)
-    → now (a .0) ≡ now (b .0) → a .1 .0 ≡ b .1 .0 → a .1 .1 .0 ≡ b .1 .1 .0
-    → next-reads.Post κs a tt e → next-reads.Post λs b tt f → now (e .1 .1 .1 .0) ≡ now (f .1 .1 .1 .0)
-one-line κs λs a b e f text place line p q = p ∙ (λ i. nextOut (text i) (place i) (line i)) ∙ sym q

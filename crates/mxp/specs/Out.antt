@@ -1,15 +1,10 @@
 -- The arrays of numbers that the exported calls answer with.
 use Prim.Native.Nat.{ℕ}
 use mathlib.Core.List.{List, [], _∷_, _++_}
-use lib.ListN.{replicate}
-use Rattle.number.specs.Whole.{wide, long}
+use Rattle.number.specs.Whole.{wide}
 use Rattle.model.specs.Cycles.{step}
 use Rattle.model.specs.State.{Context}
 use Rattle.model.specs.Verdict.{verdict}
-use Rattle.claim.specs.Claims.{claimOf}
-use Rattle.claim.specs.Instruction.{Range, Touched, nothing, one, two}
-use Rattle.list.specs.List as list
-use Rattle.list.specs.List.{Next, nextLine}
 use Rattle.filler.specs.Answer as filler
 use Rattle.filler.specs.Fill.{outcome}
 use Rattle.checker.specs.Answer.{Numbers, numbers, told}
@@ -82,29 +77,3 @@ stepList x = x .from ∷ x .bytes ∷ x .next ∷ []
 -- what `mxp_step` writes for these bytes and a next row
 abbrev pub stepOut : List ℕ → (next : ℕ) → List ℕ
 stepOut l next = stepList (stepNumbers next (step l next))
-
--- ---- the next line of a list
-
--- an offset or a length by its halves; and a range
-abbrev pub halves : ℕ → List ℕ
-halves v = long v .hi ∷ long v .lo ∷ []
-
-abbrev pub rangeList : Range → List ℕ
-rangeList r = halves (r .at) ++ halves (r .len)
-
--- how many ranges are touched, and two ranges, of zeros where there is none
-abbrev pub touchedList : Touched → List ℕ
-touchedList nothing = 0 ∷ replicate 8 0
-touchedList (one a) = 1 ∷ (rangeList a ++ replicate 4 0)
-touchedList (two a b) = 2 ∷ (rangeList a ++ rangeList b)
-
--- refused, line, stop, next, cn, op, ranges, range 1, range 2, end 1, end 2
-abbrev pub nextList : (line : ℕ) → Next → List ℕ
-nextList line list.end = replicate 21 0
-nextList line (list.one i next) =
-    0 ∷ 0 ∷ 0 ∷ next ∷ i .context .cn ∷ i .op ∷ (touchedList (i .touched) ++ (endList (claimOf i .end1) ++ endList (claimOf i .end2)))
-nextList line (list.refused n at) = n ∷ line ∷ at ∷ replicate 18 0
-
--- what `mxp_next_line` writes for this text, place and line number
-abbrev pub nextOut : (text : List ℕ) → (at line : ℕ) → List ℕ
-nextOut text at line = nextList line (nextLine text at)

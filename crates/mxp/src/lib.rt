@@ -3,19 +3,12 @@
 ghost use mathlib.Core.Path.{_≡_};
 ghost use lib.ListN.{length};
 ghost use Rattle.filler.specs.Fill.{outcome, bufferAfter};
-ghost use Rattle.mxp.specs.Out.{checkOut, fillOut, rowsOut, claimOut, lastOut, openOut, stepOut, nextOut};
-ghost use Rattle.mxp.specs.Plain.{noRange, spread, instructionOut};
+ghost use Rattle.mxp.specs.Out.{checkOut, fillOut, rowsOut, claimOut, lastOut, openOut, stepOut};
 use checker::Verdict;
-use claim::claim::claim_of;
-use claim::instruction::Instruction;
-use claim::instruction::Range;
-use claim::instruction::Touched;
 use filler::Filled;
 use last::Last;
 use last::last_state;
-use list::Next;
 use model::ROW_BYTES;
-use number::long::small;
 use state::Context;
 use trace::place::Claimed;
 use trace::place::Place;
@@ -137,98 +130,5 @@ pub extern "C" fn mxp_step(trace: &[u8], next: usize, out: &mut [u64; 3])
             ((after - next) * ROW_BYTES) as u64,
             after as u64,
         ];
-    }
-}
-
-// How many numbers the answer for a line has.
-const LINE_NUMBERS: usize = 21;
-
-// How many ranges an instruction touches, and two, of zeros where there is none.
-struct Ranges {
-    count: u64,
-    first: Range,
-    second: Range,
-}
-
-fn no_range() -> Range
-    ensures { λ r. ⌜ r ≡ noRange ⌝ }
-{
-    let at = small(0);
-    let len = small(0);
-    Range { at, len }
-}
-
-fn ranges_of(touched: Touched) -> Ranges
-    ensures { λ r. ⌜ r ≡ spread touched ⌝ }
-{
-    match touched {
-        Touched::Nothing => Ranges {
-            count: 0,
-            first: no_range(),
-            second: no_range(),
-        },
-        Touched::One(a) => Ranges {
-            count: 1,
-            first: a,
-            second: no_range(),
-        },
-        Touched::Two(a, b) => Ranges {
-            count: 2,
-            first: a,
-            second: b,
-        },
-    }
-}
-
-// Writes an instruction, its claim and the place after its line.
-fn put_instruction(i: Instruction, next: usize, out: &mut [u64; LINE_NUMBERS])
-    ensures { λ _. ⌜ now (out .exit) ≡ instructionOut i next ⌝ }
-{
-    let claim = claim_of(i);
-    let touched = i.touched;
-    let ranges = ranges_of(touched);
-    let a = ranges.first;
-    let b = ranges.second;
-    *out = [
-        0,
-        0,
-        0,
-        next as u64,
-        i.context.cn as u64,
-        i.op as u64,
-        ranges.count,
-        a.at.hi,
-        a.at.lo,
-        a.len.hi,
-        a.len.lo,
-        b.at.hi,
-        b.at.lo,
-        b.len.hi,
-        b.len.lo,
-        claim.end1.top as u64,
-        claim.end1.hi,
-        claim.end1.lo,
-        claim.end2.top as u64,
-        claim.end2.hi,
-        claim.end2.lo,
-    ];
-}
-
-// Reads the line of a list that starts at a place; `line` is its number, for a refusal. Its answer: refused, line, stop, next, cn, op, ranges, then offset
-// and length of range 1 and of range 2 by halves, then end 1 and end 2 by their first byte and two halves. At the end of the list all are 0.
-#[no_mangle]
-pub extern "C" fn mxp_next_line(text: &[u8], at: usize, line: u64, out: &mut [u64; LINE_NUMBERS])
-    ensures { λ _. ⌜ now (out .exit) ≡ nextOut (now (text .entry)) at line ⌝ }
-{
-    let next = list::next_line(text, at, line);
-    *out = [0; LINE_NUMBERS];
-    match next {
-        Next::End => {}
-        Next::One { instruction, next } => put_instruction(instruction, next, out),
-        Next::Refused { why, at } => {
-            out[0] = why.number;
-            out[1] = why.line;
-            out[2] = at as u64;
-        }
     }
 }

@@ -9,10 +9,10 @@ use native.Mathlib.Nat.{add-mul, mul-assoc, mul-left-comm, mul-le-mul-right, suc
 use native.Mathlib.Omega.{arith}
 use lib.Dec.{eqb, ltb}
 use borrow.Author.Tests.{eq-eqb, eqb-true, lt-ltb, ltb-true}
-use Rattle.number.specs.Num.{be}
+use Rattle.number.specs.Num.{num, be}
 use Rattle.number.specs.Whole.{val}
 use Rattle.number.specs.declared.wide.Wide.{Wide}
-use Rattle.number.proofs.NumLaws.{be-add}
+use Rattle.number.proofs.NumLaws.{num-add, be-add}
 use Rattle.number.proofs.TestLaws.{same-test, both, both-intro, either, either-left, either-right}
 
 -- ---- two numbers in two parts each: equal, and in order
@@ -145,3 +145,11 @@ unfolding val
 be-val a h l =
     be-add 9 8 (a .top * 2 ^ 64 + a .hi) (a .lo) l ∙ ap (λ (b : List ℕ). b ++ be 8 (a .lo)) (be-add 1 8 (a .top) (a .hi) h)
     ∙ append-assoc (be 1 (a .top)) (be 8 (a .hi)) (be 8 (a .lo))
+
+-- the number in 17 bytes, by the three parts that are read
+pub val-num : (l : List ℕ) (p : ℕ) (a : Wide) → a .top ≡ num l p 1 → a .hi ≡ num l (p + 1) 8 → a .lo ≡ num l (p + 9) 8 → val a ≡ num l p 17
+unfolding val
+val-num l p a top hi lo =
+    (λ i. (top i * 2 ^ 64 + hi i) * 2 ^ 64 + lo i)
+    ∙ ap (λ (x : ℕ). x * 2 ^ 64 + num l (p + 9) 8) (sym (num-add l p 1 8))
+    ∙ sym (num-add l p 9 8)

@@ -1,6 +1,4 @@
-// Whole numbers as bytes: big-endian numbers of any width, values of 17 bytes, and their readers and
-// writers. Every function here serves the crates above; an operator calls none of them.
+// Whole numbers: values of 17 bytes and numbers below 2^128 in the code, and the definitions of big-endian numbers of any width, of cells, sums of bytes
+// and digits. Every function here serves the crates above; an operator calls none of them.
 pub mod long;
-pub mod read;
 pub mod wide;
-pub mod write;

@@ -13,10 +13,8 @@ use Rattle.number.proofs.CellLaws.{length-encode, encode-decode}
 use Rattle.number.proofs.StoreLaws.{sets-append}
 use Rattle.model.specs.Columns.{Cells, columns, cellsIn, widths, rowBytes, ofList, rowAt, bytesOf, rowIn}
 use Rattle.model.proofs.RowBytes.{AllFit, cells-row, length-bytes, bytes-append, row-between}
-use Rattle.row.specs.Plain.{plain}
-use Rattle.row.specs.declared.cells.Row.{Row}
 
--- l, once x is written as row i: what `put_row` leaves
+-- l, once x is written as row i
 abbrev pub written : List ℕ → ℕ → Cells → List ℕ
 written l i x = sets l (i * rowBytes) (encode widths (cellsIn columns x))
 
@@ -102,15 +100,3 @@ pub others-stay : (l : List ℕ) (i j : ℕ) (x : Cells) → j ≢ i → rowAt (
 unfolding rowAt
 others-stay l i j x n =
     ap ofList (decode-agree widths (written l i x) l (j * rowBytes) (λ k g h. bytes-stay l i k x (λ e. n (omega arith))))
-
--- ---- the code's row: what `put_row` and `read_row` promise, together
-
--- what is read where x was put is x
-pub put-read : {m : List ℕ} (l : List ℕ) (i : ℕ) (x r : Row) → Fit widths (cellsIn columns (plain x)) → (i + 1) * rowBytes ≤ length l
-    → m ≡ written l i (plain x) → plain r ≡ rowAt m i → plain r ≡ plain x
-put-read l i x r f h e q = rw e at q ∙ read-written l i (plain x) f (omega arith)
-
--- putting what was read leaves the bytes
-pub read-put : {m : List ℕ} (l : List ℕ) (i : ℕ) (x : Row) → AllBytes l → (i + 1) * rowBytes ≤ length l
-    → plain x ≡ rowAt l i → m ≡ written l i (plain x) → m ≡ l
-read-put l i x b h q e = e ∙ ap (written l i) q ∙ write-read l i b (omega arith)

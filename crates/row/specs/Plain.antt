@@ -2,12 +2,9 @@
 use Prim.Native.Nat.{ℕ, _+_}
 use mathlib.Core.List.{List, [], _∷_}
 use mathlib.Core.Path.{_≡_}
-use lib.ListN.{take, drop}
-use lib.Seq.{sets}
-use Rattle.number.specs.Cells.{total}
-use Rattle.number.specs.Num.{num, be}
+use Rattle.number.specs.Num.{num}
 use Rattle.number.specs.Whole.{val}
-use Rattle.model.specs.Columns.{Cells, Column, columns, widths, ofList}
+use Rattle.model.specs.Columns.{Cells, widths, ofList}
 use Rattle.row.specs.declared.cells.Body.{Body}
 use Rattle.row.specs.declared.cells.Head.{Head}
 use Rattle.row.specs.declared.cells.Row.{Row}
@@ -56,15 +53,6 @@ cellsFrom (w ∷ ws) l p o = num l (p + o) w ∷ cellsFrom ws l p (o + w)
 -- the row whose first byte is at p
 abbrev pub from : List ℕ → ℕ → Cells
 from l p = ofList (cellsFrom widths l p 0)
-
--- l, once the cells of x in these columns are stored one by one, the first of them o bytes after p
-abbrev pub storesFrom : List Column → Cells → List ℕ → (p o : ℕ) → List ℕ
-storesFrom [] x l p o = l
-storesFrom (c ∷ cs) x l p o = storesFrom cs x (sets l (p + o) (be (c .width) (c .cell x))) p (o + c .width)
-
--- l, once the cells of x in the n columns from column k on are stored in the row whose first byte is at p
-abbrev pub partStored : (k n : ℕ) → Cells → List ℕ → ℕ → List ℕ
-partStored k n x l p = storesFrom (take n (drop k columns)) x l p (total (take k widths))
 
 -- x is that part of the row y
 pub record HeadOf (y : Cells) (x : Head) : Type 0 where

@@ -1,6 +1,5 @@
-// One row of a trace in code: a row by value, read from the bytes of a trace and written to a lent buffer. Only crates of this
-// repository call these functions: each asks that the row is there.
+// One row of a trace in code: a row by value, where its cells stand, and the row read from the bytes of a trace. Only crates of this repository call these
+// functions: each asks that the row is there.
 pub mod cells;
 pub mod place;
 pub mod read;
-pub mod write;

@@ -10,11 +10,11 @@ use crate::cells::Head;
 use crate::cells::Row;
 use crate::cells::Tail;
 use crate::place;
+use cell::read::u8_at;
+use cell::read::u24_at;
+use cell::read::u32_at;
+use cell::read::wide_at;
 use model::ROW_BYTES;
-use number::read::u8_at;
-use number::read::u24_at;
-use number::read::u32_at;
-use number::read::wide_at;
 
 // The parts of the row whose first byte is at p.
 

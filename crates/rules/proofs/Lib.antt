@@ -1,3 +1,1 @@
-pub mod SumLaws
-pub mod WordLaws
 pub mod FirstLaws

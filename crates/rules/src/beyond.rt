@@ -3,26 +3,25 @@ ghost use mathlib.Core.Path.{_≡_};
 ghost use Rattle.model.specs.Constraints.{k24, k25};
 ghost use Rattle.row.specs.Plain.{plain};
 use crate::cells::from_comp_zero;
-use crate::cells::stays;
-use crate::words::implies;
-use crate::words::is_sum;
-use crate::words::pick_wide;
+use crate::cells::row_stays;
 use model::OUT_LAST;
-use number::wide::BOUND;
-use number::wide::in_bounds;
 use row::cells::Row;
+use words::amounts::is_beyond;
+use words::implies;
 
 // 24. MEMN=MEM, COSTN=COST, GAS=0; BYTE2, ACC2 and every cell from COMP on are 0.
 pub fn rule24(x: Row) -> bool
     ensures { λ v. ⌜ v ≡ k24 (plain x) ⌝ }
 {
-    stays(x) & (x.head.byte2 == 0) & (x.head.acc2 == 0) & from_comp_zero(x)
+    row_stays(x) & (x.head.byte2 == 0) & (x.head.acc2 == 0) & from_comp_zero(x)
 }
 
 // 25. CT=16: ACC1 = END1-2^24 if END1 is at least 2^24, else END2-2^24.
 pub fn rule25(x: Row) -> bool
     ensures { λ v. ⌜ v ≡ k25 (plain x) ⌝ }
 {
-    let end = pick_wide(in_bounds(x.head.end1), x.head.end2, x.head.end1);
-    implies(x.head.ct == OUT_LAST, is_sum(end, BOUND, x.head.acc1))
+    implies(
+        x.head.ct == OUT_LAST,
+        is_beyond(x.head.end1, x.head.end2, x.head.acc1),
+    )
 }

@@ -5,15 +5,22 @@ ghost use Rattle.model.specs.Columns as columns;
 ghost use Rattle.model.specs.Constraints as constraints;
 ghost use Rattle.model.specs.Tests.{zeros};
 ghost use Rattle.row.specs.Plain.{plain};
-use crate::words::is_zero;
 use number::wide::same;
 use row::cells::Row;
+use words::amounts::stays;
+use words::is_zero;
 
 // MEMN=MEM, COSTN=COST, GAS=0.
-pub(crate) fn stays(x: Row) -> bool
+pub(crate) fn row_stays(x: Row) -> bool
     ensures { λ v. ⌜ v ≡ constraints.stays (plain x) ⌝ }
 {
-    (x.body.memn == x.body.mem) & (x.body.costn == x.body.cost) & (x.body.gas == 0)
+    stays(
+        x.body.mem,
+        x.body.memn,
+        x.body.cost,
+        x.body.costn,
+        x.body.gas,
+    )
 }
 
 // The Q and AUX cells are 0.

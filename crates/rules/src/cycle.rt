@@ -1,14 +1,17 @@
 // What holds in the cycle of any instruction: constraints 7 to 10, where STAMP is not 0.
 ghost use mathlib.Core.Path.{_≡_};
-ghost use Rattle.model.specs.Constraints.{k7, k8, k9, k10};
+ghost use mathlib.Core.Bool.{_&&_};
+ghost use lib.Dec.{eqb};
+ghost use Rattle.model.specs.Constraints.{k7, k8, k10};
+ghost use Rattle.model.specs.Tests as tests;
 ghost use Rattle.row.specs.Plain.{plain};
 ghost use Rattle.state.specs.Plain.{state};
 use crate::cells::all_kept;
-use crate::words::implies;
-use crate::words::sums_up_wide;
-use crate::words::wide;
 use row::cells::Row;
 use state::State;
+use words::implies;
+use words::sums_up_wide;
+use words::wide;
 
 // 7. CN is not 0.
 pub fn rule7(x: Row) -> bool
@@ -25,13 +28,10 @@ pub fn rule8(b: Row, x: Row) -> bool
 }
 
 // 9. CT=0: MEM and COST equal MEMN and COSTN of the latest earlier cycle with this CN, the state s; both 0 if there is none.
-pub fn rule9(s: State, x: Row) -> bool
-    ensures { λ v. ⌜ v ≡ k9 (state s) (plain x) ⌝ }
+pub fn rule9(s: State, ct: u8, mem: u32, cost: u32) -> bool
+    ensures { λ v. ⌜ v ≡ tests.implies (eqb ct 0) (eqb mem (state s .mem) && eqb cost (state s .cost)) ⌝ }
 {
-    implies(
-        x.head.ct == 0,
-        (x.body.mem == s.mem.0) & (wide(x.body.cost) == s.cost.0),
-    )
+    implies(ct == 0, (mem == s.mem.0) & (wide(cost) == s.cost.0))
 }
 
 // 10. BYTE1 sums up into ACC1.

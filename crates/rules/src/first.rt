@@ -28,9 +28,9 @@ use crate::within::rule20;
 use crate::within::rule21;
 use crate::within::rule22;
 use crate::within::rule23;
-use crate::words::pick;
 use model::IN_LAST;
 use row::cells::Row;
+use words::pick;
 
 // 18 to 22, on the last row of a cycle.
 fn first_on_last_row(a: Row, b: Row, x: Row, rest: u64) -> u64

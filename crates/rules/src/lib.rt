@@ -6,4 +6,3 @@ pub mod cycle;
 pub mod first;
 pub mod steps;
 pub mod within;
-pub mod words;

@@ -3,13 +3,11 @@ ghost use mathlib.Core.Path.{_≡_};
 ghost use Rattle.model.specs.Constraints.{k1, k2, k3, k4, k5, k6, k26};
 ghost use Rattle.row.specs.Plain.{plain};
 use crate::cells::all_zero;
-use crate::words::byte;
-use crate::words::implies;
-use crate::words::last_ct;
-use crate::words::pick;
-use crate::words::pick_test;
-use crate::words::wide;
 use row::cells::Row;
+use words::implies;
+use words::last_ct;
+use words::steps::ct_follows;
+use words::steps::stamp_follows;
 
 // 1. OOOB is 0 or 1.
 pub fn rule1(x: Row) -> bool
@@ -29,12 +27,9 @@ pub fn rule2(first: bool, x: Row) -> bool
 pub fn rule3(first: bool, b: Row, x: Row) -> bool
     ensures { λ v. ⌜ v ≡ k3 first (plain b) (plain x) ⌝ }
 {
-    let before = wide(b.head.stamp);
-    let ended = b.head.ct == last_ct(b.head.ooob);
-    let follows = wide(x.head.stamp) == pick(ended, before + 1, before);
     implies(
         !first,
-        pick_test(b.head.stamp == 0, x.head.stamp <= 1, follows),
+        stamp_follows(b.head.stamp, b.head.ct, b.head.ooob, x.head.stamp),
     )
 }
 
@@ -42,8 +37,7 @@ pub fn rule3(first: bool, b: Row, x: Row) -> bool
 pub fn rule4(b: Row, x: Row) -> bool
     ensures { λ v. ⌜ v ≡ k4 (plain b) (plain x) ⌝ }
 {
-    let starts = (x.head.stamp == 0) | (x.head.stamp != b.head.stamp);
-    byte(x.head.ct) == pick(starts, 0, byte(b.head.ct) + 1)
+    ct_follows(b.head.stamp, b.head.ct, x.head.stamp, x.head.ct)
 }
 
 // 5. STAMP 0: OOOB is 0. Inside a cycle OOOB is as before.

@@ -1,57 +1,15 @@
-//! The library under test: its calls, and the numbers in which they answer.
+//! The library under test: its calls over what is lent to them, and the reference's answers in the library's numbers.
 
-use std::ops;
+use std::ops::Range;
 
-use reference::list::{self, Range};
+use mxp::raw::{self, CheckAnswer, ClaimAnswer, FillAnswer, OpenAnswer, RowsAnswer, StateAnswer, StepAnswer};
 use reference::{Claim, LastState, Refusal, State, Verdict, Walker, Wide};
-
-/// Refused, line, 0, accepted, instructions, oob, empty, row, constraint; what is not meant is 0.
-pub type Answer = [u64; 9];
-
-/// Refused, line, stop, next, cn, op, ranges; at and len of range 1 and of range 2, each in two halves; end 1 and end 2,
-/// each as its top byte and two halves. What is not meant is 0.
-pub type LineAnswer = [u64; 21];
-
-/// Refused, line, 0, rows; what is not meant is 0.
-pub type FillAnswer = [u64; 4];
-
-/// Refused, line, 0, first byte of the part, its length; what is not meant is 0.
-pub type RowsAnswer = [u64; 5];
-
-/// Refused, line, 0, cn; end 1 and end 2, each as its top byte and two halves. What is not meant is 0.
-pub type ClaimAnswer = [u64; 10];
-
-/// Refused, line, 0, mem, cost, looked; what is not meant is 0.
-pub type StateAnswer = [u64; 6];
-
-/// Refused, line, 0, next row; what is not meant is 0.
-pub type OpenAnswer = [u64; 4];
-
-/// First byte of the part, its length, next row; an empty part is 0, 0.
-pub type StepAnswer = [u64; 3];
-
-unsafe extern "C" {
-    fn mxp_check(trace: *const u8, trace_len: usize, out: *mut Answer);
-    fn mxp_next_line(list: *const u8, list_len: usize, at: usize, line: u64, out: *mut LineAnswer);
-    fn mxp_fill(list: *const u8, list_len: usize, empty: u64, buffer: *mut u8, buffer_len: usize, out: *mut FillAnswer);
-    fn mxp_rows(trace: *const u8, trace_len: usize, k: u64, out: *mut RowsAnswer);
-    fn mxp_claim(trace: *const u8, trace_len: usize, k: u64, out: *mut ClaimAnswer);
-    fn mxp_last_state(trace: *const u8, trace_len: usize, cn: u32, limit: u64, out: *mut StateAnswer);
-    fn mxp_open(trace: *const u8, trace_len: usize, out: *mut OpenAnswer);
-    fn mxp_step(trace: *const u8, trace_len: usize, next: u64, out: *mut StepAnswer);
-}
 
 /// Calls the checker. The trace is lent as one that might change, so that a write into it is seen afterwards and not
 /// assumed away.
-pub fn check(trace: &mut [u8], out: &mut Answer) {
+pub fn check(trace: &mut [u8], out: &mut CheckAnswer) {
     // SAFETY: the pointer and the length are those of one slice, `out` is an answer's room, and both outlive the call.
-    unsafe { mxp_check(trace.as_mut_ptr().cast_const(), trace.len(), out) }
-}
-
-/// Calls the list reader for the line that starts at a place. The list is lent as one that might change, as a trace is.
-pub fn next_line(list: &mut [u8], at: usize, line: u64, out: &mut LineAnswer) {
-    // SAFETY: the pointer and the length are those of one slice, `out` is an answer's room, and both outlive the call.
-    unsafe { mxp_next_line(list.as_mut_ptr().cast_const(), list.len(), at, line, out) }
+    unsafe { raw::mxp_check(trace.as_mut_ptr().cast_const(), trace.len(), out) }
 }
 
 /// Calls the filler. The list is lent as one that might change, as a trace is.
@@ -59,41 +17,41 @@ pub fn fill(list: &mut [u8], empty_rows: u64, buffer: &mut [u8], out: &mut FillA
     let (list, list_len) = (list.as_mut_ptr().cast_const(), list.len());
     // SAFETY: each pointer and length are those of one slice, `out` is an answer's room, no two of them overlap, and
     // all outlive the call.
-    unsafe { mxp_fill(list, list_len, empty_rows, buffer.as_mut_ptr(), buffer.len(), out) }
+    unsafe { raw::mxp_fill(list, list_len, empty_rows, buffer.as_mut_ptr(), buffer.len(), out) }
 }
 
 /// Asks for the rows of instruction k. The trace is lent as one that might change, as for all calls over a trace.
 pub fn rows(trace: &mut [u8], k: u64, out: &mut RowsAnswer) {
     // SAFETY: the pointer and the length are those of one slice, `out` is an answer's room, and both outlive the call.
-    unsafe { mxp_rows(trace.as_mut_ptr().cast_const(), trace.len(), k, out) }
+    unsafe { raw::mxp_rows(trace.as_mut_ptr().cast_const(), trace.len(), k, out) }
 }
 
 /// Asks for the claim of instruction k.
 pub fn claim(trace: &mut [u8], k: u64, out: &mut ClaimAnswer) {
     // SAFETY: as above.
-    unsafe { mxp_claim(trace.as_mut_ptr().cast_const(), trace.len(), k, out) }
+    unsafe { raw::mxp_claim(trace.as_mut_ptr().cast_const(), trace.len(), k, out) }
 }
 
 /// Asks for the last state of a context, with a limit on the cycles to look at.
 pub fn last_state(trace: &mut [u8], cn: u32, limit: u64, out: &mut StateAnswer) {
     // SAFETY: as above.
-    unsafe { mxp_last_state(trace.as_mut_ptr().cast_const(), trace.len(), cn, limit, out) }
+    unsafe { raw::mxp_last_state(trace.as_mut_ptr().cast_const(), trace.len(), cn, limit, out) }
 }
 
 /// Opens a walker.
 pub fn open(trace: &mut [u8], out: &mut OpenAnswer) {
     // SAFETY: as above.
-    unsafe { mxp_open(trace.as_mut_ptr().cast_const(), trace.len(), out) }
+    unsafe { raw::mxp_open(trace.as_mut_ptr().cast_const(), trace.len(), out) }
 }
 
 /// Lets a walker at a row take a step.
 pub fn step(trace: &mut [u8], next: u64, out: &mut StepAnswer) {
     // SAFETY: as above.
-    unsafe { mxp_step(trace.as_mut_ptr().cast_const(), trace.len(), next, out) }
+    unsafe { raw::mxp_step(trace.as_mut_ptr().cast_const(), trace.len(), next, out) }
 }
 
 /// A verdict as the library answers it.
-pub fn answer(verdict: Verdict) -> Answer {
+pub fn check_answer(verdict: Verdict) -> CheckAnswer {
     match verdict {
         Verdict::Refused { number } => [number.into(), 0, 0, 0, 0, 0, 0, 0, 0],
         Verdict::Accepted { instructions, oob, empty } => {
@@ -101,14 +59,6 @@ pub fn answer(verdict: Verdict) -> Answer {
         }
         Verdict::Broken { row, constraint } => [0, 0, 0, 0, 0, 0, 0, row.into(), constraint.into()],
     }
-}
-
-/// An answer of the list reader as the library gives it.
-pub fn line_answer(answer: &list::Answer) -> LineAnswer {
-    let &list::Answer { refused, line, stop, next, cn, op, ranges, range1, range2, end1, end2 } = answer;
-    let head = [refused.into(), line, stop as u64, next as u64, cn.into(), op.into(), ranges.into()];
-    let parts = [&head[..], &halves_of(range1), &halves_of(range2), &parts_of(end1), &parts_of(end2)].concat();
-    parts.try_into().expect("there are 21 numbers")
 }
 
 /// An answer of the filler as the library gives it.
@@ -120,7 +70,7 @@ pub fn fill_answer(answer: Result<usize, Refusal>) -> FillAnswer {
 }
 
 /// The rows of an instruction as the library answers them.
-pub fn rows_answer(answer: Result<ops::Range<usize>, Refusal>) -> RowsAnswer {
+pub fn rows_answer(answer: Result<Range<usize>, Refusal>) -> RowsAnswer {
     match answer {
         Ok(part) => [0, 0, 0, part.start as u64, part.len() as u64],
         Err(Refusal { number, line }) => [number.into(), line, 0, 0, 0],
@@ -155,13 +105,9 @@ pub fn open_answer(answer: Result<Walker, Refusal>) -> OpenAnswer {
 }
 
 /// A step of a walker as the library answers it: the part, and the next row after the step.
-pub fn step_answer(part: Option<ops::Range<usize>>, next: u64) -> StepAnswer {
+pub fn step_answer(part: Option<Range<usize>>, next: u64) -> StepAnswer {
     let part = part.unwrap_or_default();
     [part.start as u64, part.len() as u64, next]
-}
-
-fn halves_of(Range { at, len }: Range) -> [u64; 4] {
-    [(at >> 64) as u64, at as u64, (len >> 64) as u64, len as u64]
 }
 
 fn parts_of(end: Wide) -> [u64; 3] {

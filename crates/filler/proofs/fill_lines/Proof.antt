@@ -1,5 +1,5 @@
 -- `filler::fill_lines` meets its contract: a trace with too many rows is refused (`too-many`), then one that the buffer is too short for
--- (`too-short`); any other is stored, its empty rows first (`filled-buffer`).
+-- (`too-short`); any other is stored, its empty rows first (`empty-stored`, `filled-buffer`).
 use Prim.Native.Nat.{_+_}
 use mathlib.Core.List.{List}
 use mathlib.Core.Path.{_≡_, sym, ap}
@@ -11,7 +11,7 @@ use Rattle.model.specs.Trace.{trace}
 use Rattle.model.proofs.JoinLaws.{length-trace}
 use Rattle.filler.specs.Lines.{listClaims}
 use Rattle.filler.specs.declared.Filled.the-variants.{Rows, Refused}
-use Rattle.filler.proofs.FillLaws.{too-many, too-short, there-is-room, filled-buffer}
+use Rattle.filler.proofs.FillLaws.{too-many, too-short, there-is-room, empty-stored, filled-buffer}
 use Rattle.filler.proofs.fill_lines.Statement.{statement}
 use Rattle.filler.proofs.fill_lines.Tie as tie
 
@@ -49,8 +49,10 @@ put-empty-requires c κs = omega arith
 
 put-lines-requires : tie.Need-put-lines-requires
 put-lines-requires c κs =
-    let start = c .before .before .before .before .before .before .before .before .before .before in
-    (start .pre .0, (omega arith, omega arith))
+    let first = c .before .before .before in
+    let start = first .before .before .before .before .before .before .before in
+    let a = start .args in
+    (start .pre .0, (start .pre .1 .1, (empty-stored (a .buf .now) (a .empty) (omega arith) (first .put-empty .ensures), (omega arith, omega arith))))
 
 same-length : tie.Need-same-length
 same-length c = search needs

@@ -5,13 +5,13 @@ use reference::{ROW_BYTES, Refusal};
 use crate::Outcome;
 use crate::fill::filling::{Answer, Order, compare};
 
-/// A call of the filler and its answer.
+/// A call of the filler and its answer: the rows that are written, or a refusal.
 pub struct Case {
     name: String,
     list: Vec<u8>,
     empty_rows: u64,
     room: usize,
-    meant: Answer,
+    meant: Result<usize, Refusal>,
 }
 
 impl Case {
@@ -30,12 +30,16 @@ impl Case {
         Case { name: name.into(), list: list.into(), empty_rows, room, meant: Err(Refusal { number, line }) }
     }
 
-    /// Both fillers must give the answer that is meant.
-    pub fn compare(&self) -> Outcome<()> {
+    /// The answer of both fillers, which must be the one that is meant.
+    pub fn compare(&self) -> Outcome<Answer> {
         let Case { name, list, empty_rows, room, meant } = self;
         let order = Order { list, behind: &[], empty_rows: *empty_rows, room: *room };
         let answer = compare(&order).map_err(|error| format!("{name}: {error}"))?;
-        if answer == *meant { Ok(()) } else { Err(format!("{name}: both answer {answer:?}, meant is {meant:?}")) }
+        let found = answer.as_ref().map(|trace| trace.len() / ROW_BYTES);
+        if found == meant.as_ref().copied() {
+            return Ok(answer);
+        }
+        Err(format!("{name}: both answer {found:?}, meant is {meant:?}"))
     }
 }
 
@@ -43,7 +47,7 @@ impl Case {
 pub fn compare_cases(cases: impl IntoIterator<Item = Case>) -> Outcome<usize> {
     let mut count = 0;
     for case in cases {
-        case.compare()?;
+        case.compare().map(drop)?;
         count += 1;
     }
     Ok(count)

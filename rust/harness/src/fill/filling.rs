@@ -1,16 +1,23 @@
 //! One list put to both fillers, and the trace that comes of it to the checkers.
 
+use std::array;
+
+use mxp::raw::FillAnswer;
 use reference::list::claims;
-use reference::row::first_rows;
 use reference::{Claim, ROW_BYTES, Refusal, Verdict};
 
 use crate::Outcome;
-use crate::compare;
-use crate::library::{self, FillAnswer};
+use crate::check::compare as checkers;
+use crate::fill::read_back::read_back;
+use crate::library;
 use crate::margins::{Lent, answered};
 
-/// What a filler answers: the rows written, or a refusal.
-pub type Answer = Result<usize, Refusal>;
+/// What a buffer holds before a call is repeated after so many bytes. It shares no factor with the bytes of a row, so
+/// that a cell lies over other bytes from row to row.
+const OLD_BLOCK: usize = 1_009;
+
+/// What a filler comes to: the trace that it writes, or a refusal.
+pub type Answer = Result<Vec<u8>, Refusal>;
 
 /// What a filler is lent and told.
 #[derive(Clone, Copy)]
@@ -25,68 +32,89 @@ pub struct Order<'a> {
     pub room: usize,
 }
 
-/// The answer, if both fillers come to the same, the library has written the trace that the reference has and nothing
-/// else, and that trace is accepted as the list's.
-pub fn compare(order: &Order) -> Outcome<Answer> {
-    let told = |error: String| {
-        let Order { list, empty_rows, room, .. } = order;
-        format!("list of {} bytes, {empty_rows} empty rows, buffer of {room} bytes: {error}", list.len())
-    };
-    let mut trace = old_bytes(order.room, 0);
-    let answer = reference::fill(order.list, order.empty_rows, &mut trace);
-    trace.truncate(answer.unwrap_or(0) * ROW_BYTES);
-    // No byte is the same in both buffers before the call: one that is not written though it should be shows in one of
-    // them, and so does one that is written though it should stay.
-    for flipped in [0, u8::MAX] {
-        fill_over(&old_bytes(order.room, flipped), order, answer, &trace).map_err(told)?;
+impl Order<'_> {
+    /// The claims of a list that is not refused.
+    pub fn claims(&self) -> Outcome<Vec<Claim>> {
+        claims(self.list).collect::<Result<_, _>>().map_err(|refusal| refusal.to_string())
     }
-    if answer.is_ok() {
-        judge(&trace, order).map_err(told)?;
+
+    /// Adds to a message what was lent and told.
+    fn told(&self, error: String) -> String {
+        let Order { list, empty_rows, room, .. } = self;
+        format!("list of {} bytes, {empty_rows} empty rows, buffer of {room} bytes: {error}", list.len())
+    }
+}
+
+/// The answer, if both fillers come to the same, the library has written the trace that the reference has and nothing
+/// else, and that trace is accepted with the counts of the list.
+pub fn compare(order: &Order) -> Outcome<Answer> {
+    compare_untold(order).map_err(|error| order.told(error))
+}
+
+/// The same, and the instructions of the trace must come back from it as the lines have them.
+pub fn compare_and_read_back(order: &Order) -> Outcome<Answer> {
+    let answer = compare(order)?;
+    if let Ok(trace) = &answer {
+        order.claims().and_then(|claims| read_back(trace, &claims)).map_err(|error| order.told(error))?;
     }
     Ok(answer)
 }
 
+fn compare_untold(order: &Order) -> Outcome<Answer> {
+    let mut trace = old_bytes(order.room, 0);
+    let rows = reference::fill(order.list, order.empty_rows, &mut trace);
+    trace.truncate(rows.unwrap_or(0) * ROW_BYTES);
+    // No byte is the same in both buffers before the call: one that is not written though it should be shows in one of
+    // them, and so does one that is written though it should stay.
+    for flipped in [0, u8::MAX] {
+        fill_over(&old_bytes(order.room, flipped), order, rows, &trace)?;
+    }
+    if rows.is_ok() {
+        judge(&trace, order)?;
+    }
+    Ok(rows.map(|_| trace))
+}
+
 /// What a buffer holds before the call: bytes that differ from place to place, with some bits of each flipped.
 fn old_bytes(room: usize, flipped: u8) -> Vec<u8> {
-    let mixed = |place: usize| (place as u64 + 1).wrapping_mul(0x9e37_79b9_7f4a_7c15).to_be_bytes()[0];
-    (0..room).map(|place| mixed(place) ^ flipped).collect()
+    let mixed = |place: usize| (place as u64 + 1).wrapping_mul(0x9e37_79b9_7f4a_7c15).to_be_bytes()[0] ^ flipped;
+    let block: [u8; OLD_BLOCK] = array::from_fn(mixed);
+    let mut bytes = block.repeat(room.div_ceil(OLD_BLOCK));
+    bytes.truncate(room);
+    bytes
 }
 
 /// Lets the library fill a buffer, and holds its answer and all that it was lent against what is meant.
-fn fill_over(old: &[u8], order: &Order, answer: Answer, trace: &[u8]) -> Outcome<()> {
+fn fill_over(old: &[u8], order: &Order, rows: Result<usize, Refusal>, trace: &[u8]) -> Outcome<()> {
     let mut list = Lent::followed_by(order.list, order.behind);
     let mut buffer = Lent::new(old);
     let call = |out: &mut FillAnswer| library::fill(list.bytes(), order.empty_rows, buffer.bytes(), out);
     let found: FillAnswer = answered(call)?;
-    let meant = library::fill_answer(answer);
+    let meant = library::fill_answer(rows);
     if found != meant {
         return Err(format!("the library answers {found:?}, the reference {meant:?}"));
     }
     list.untouched()?;
     buffer.untouched_from(trace.len())?;
-    match buffer.bytes().iter().zip(trace).position(|(found, meant)| found != meant) {
-        None => Ok(()),
-        Some(at) => {
-            let (row, byte) = (at / ROW_BYTES, at % ROW_BYTES);
-            let (found, meant) = (buffer.bytes()[at], trace[at]);
-            Err(format!("row {row}, byte {byte}: the library writes {found}, the reference {meant}"))
-        }
-    }
+    same_trace(&buffer.bytes()[..trace.len()], trace)
 }
 
-/// Both checkers must accept a trace with the counts of its list, and its instructions must claim what the lines do.
+/// The bytes that the library writes must be those that the reference does.
+fn same_trace(found: &[u8], meant: &[u8]) -> Outcome<()> {
+    if found == meant {
+        return Ok(());
+    }
+    let at = found.iter().zip(meant).take_while(|(found, meant)| found == meant).count();
+    let (row, byte) = (at / ROW_BYTES, at % ROW_BYTES);
+    Err(format!("row {row}, byte {byte}: the library writes {}, the reference {}", found[at], meant[at]))
+}
+
+/// Both checkers must accept a trace with the counts of its list.
 fn judge(trace: &[u8], order: &Order) -> Outcome<()> {
-    let claims: Vec<Claim> = claims(order.list).collect::<Result<_, _>>().map_err(|refusal| refusal.to_string())?;
+    let claims = order.claims()?;
     let oob = claims.iter().filter(|claim| !claim.in_bounds()).count();
     let (instructions, oob, empty) = (claims.len() as u32, oob as u32, order.empty_rows as u32);
     let meant = Verdict::Accepted { instructions, oob, empty };
-    let verdict = compare::compare(trace)?;
-    if verdict != meant {
-        return Err(format!("the checkers say of the trace: {verdict}, meant is: {meant}"));
-    }
-    if first_rows(trace).map(|row| Claim::of_row(&row)).eq(claims) {
-        Ok(())
-    } else {
-        Err("the instructions of the trace do not claim what the lines do".into())
-    }
+    let verdict = checkers::compare(trace)?;
+    if verdict == meant { Ok(()) } else { Err(format!("the checkers say of the trace: {verdict}, meant is: {meant}")) }
 }

@@ -5,9 +5,9 @@ use reference::list::Fields;
 use reference::{MAX_ROWS, ROW_BYTES};
 
 use crate::Outcome;
+use crate::check::full_size::{IN_BOUNDS, OUT_OF_BOUNDS};
 use crate::fill::case::{Case, compare_cases};
-use crate::full_size::{IN_BOUNDS, OUT_OF_BOUNDS};
-use crate::list::full_size::{largest, shortest, typical};
+use crate::fill::full_lists::{largest, shortest, typical};
 
 /// A buffer for the longest trace and a row more.
 const AMPLE: usize = (MAX_ROWS + 1) * ROW_BYTES;
@@ -48,22 +48,22 @@ fn far(cn: u32, step: u32) -> Fields {
 }
 
 /// Instructions in bounds of some contexts in turn, a full trace.
-pub fn interleaved(contexts: u32) -> String {
+fn interleaved(contexts: u32) -> String {
     lines(IN_BOUNDS, |step| near(1 + step % contexts, step))
 }
 
 /// Instructions in bounds, each of a context of its own, with numbers that rise.
-pub fn rising() -> String {
+fn rising() -> String {
     lines(IN_BOUNDS, |step| near(1 + step, step))
 }
 
 /// Instructions in bounds, each of a context of its own, with numbers that fall.
-pub fn falling() -> String {
+fn falling() -> String {
     lines(IN_BOUNDS, |step| near(u32::MAX - step, step))
 }
 
 /// Instructions out of bounds of a few contexts, a full trace.
-pub fn out_of_bounds() -> String {
+fn out_of_bounds() -> String {
     lines(OUT_OF_BOUNDS, |step| far(1 + step % 7, step))
 }
 
@@ -71,6 +71,12 @@ pub fn out_of_bounds() -> String {
 pub fn mixed() -> String {
     let fields = |step| if step % 81 == 80 { far } else { near };
     lines(MIXED, |step| fields(step)(1 + step % 9, step))
+}
+
+/// Instructions in bounds in lines as long as such may be: ranges of length 0 at offsets of the most digits.
+fn longest_lines() -> String {
+    let at = u128::MAX;
+    lines(IN_BOUNDS, |step| Fields { cn: u32::MAX - step % 3, op: 0xf1, at1: at, len1: 0, at2: at, len2: 0 })
 }
 
 /// Contexts that each come twice, the second time after all others.
@@ -89,6 +95,7 @@ fn full() -> Vec<Case> {
         fills("each context twice", twice()),
         fills("out of bounds", out_of_bounds()),
         fills("both kinds", mixed()),
+        fills("the longest lines", longest_lines()),
         Case::fills("full trace, empty rows", "", most, MAX_ROWS),
         Case::fills("full trace, empty rows and a line", near(7, 1).to_string(), most - 3, MAX_ROWS),
         Case::fills("full trace, empty rows and a line out of bounds", far(7, 1).to_string(), most - 17, MAX_ROWS),

@@ -5,6 +5,7 @@ use reference::list_vectors::{FAULTS, PLAIN, lines_of};
 use reference::{MAX_ROWS, ROW_BYTES};
 
 use crate::Outcome;
+use crate::check::full_size::IN_BOUNDS;
 use crate::fill::case::{Case, compare_cases};
 
 /// A buffer that is large enough for any trace.
@@ -12,7 +13,7 @@ const FULL: usize = MAX_ROWS * ROW_BYTES;
 /// A buffer that is too small for a trace.
 const SHORT: usize = ROW_BYTES - 1;
 /// A list of so many lines fills more rows than there may be.
-const TOO_MANY_LINES: usize = 21_846;
+const TOO_MANY_LINES: usize = IN_BOUNDS as usize + 1;
 
 /// Compares on every case; answers how many there are.
 pub fn compare_all() -> Outcome<usize> {

@@ -45,6 +45,13 @@ impl<'a> Asked<'a> {
         Ok(meant)
     }
 
+    /// The answer to one call, if both come to the same and the library wrote nothing else.
+    pub fn ask_once(&mut self, question: Question) -> Outcome<Numbers> {
+        let answer = self.ask_unseen(question)?;
+        self.untouched().map_err(|error| format!("{question:?}: {error}"))?;
+        Ok(answer)
+    }
+
     /// The answer to one call, if both come to the same. To look at the trace is left to do after many such calls.
     pub fn ask_unseen(&mut self, question: Question) -> Outcome<Numbers> {
         let meant = question.put_to_reference(self.bytes, self.trace);
@@ -119,8 +126,8 @@ impl<'a> Asked<'a> {
     pub fn expect_walk_of_all_rows(&mut self, instructions: u64) -> Outcome<()> {
         let mut next = self.ask(Question::Open)?[3];
         for k in 1..=instructions {
-            let rows = self.ask(Question::Rows { k })?;
-            let step = self.ask(Question::Step { next })?;
+            let rows = self.ask_once(Question::Rows { k })?;
+            let step = self.ask_once(Question::Step { next })?;
             if step[..2] != rows[3..] {
                 return Err(format!(
                     "the step from row {next} gives {step:?}, the rows of instruction {k} are {rows:?}"

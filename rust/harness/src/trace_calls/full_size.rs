@@ -2,11 +2,12 @@
 //! made from.
 
 use reference::list::claims;
-use reference::{Claim, Draft, MAX_ROWS};
+use reference::{Claim, Draft, MAX_ROWS, ROW_BYTES};
 
 use crate::Outcome;
+use crate::check::full_size::{IN_BOUNDS, all_contexts, in_bounds, out_of_bounds};
 use crate::fill;
-use crate::full_size::{IN_BOUNDS, all_contexts, in_bounds, out_of_bounds};
+use crate::library;
 use crate::trace_calls::asked::Asked;
 use crate::trace_calls::question::Question;
 
@@ -40,7 +41,7 @@ pub fn compare_all() -> Outcome<usize> {
 }
 
 /// One instruction of context 1, and then as many of another as there is room for.
-pub fn far_back() -> Draft {
+fn far_back() -> Draft {
     let claim = |step: u32| if step == 0 { Claim::small(1, 705, 0) } else { Claim::small(2, step, 0) };
     Draft::new(1, &(0..IN_BOUNDS).map(claim).collect::<Vec<_>>())
 }
@@ -117,11 +118,16 @@ fn a_context_each() -> Outcome<usize> {
     let bytes = all_contexts().to_bytes();
     let mut asked = Asked::new(&bytes);
     let all = u64::from(IN_BOUNDS);
-    asked.expect(Question::LastState { cn: 1, limit: all }, &[0, 0, 0, 1, cost(1), all])?;
-    asked.expect_refusal(Question::LastState { cn: 1, limit: all - 1 }, 14)?;
-    let (cn, looked) = (10_000, all - 9_999);
-    asked.expect(Question::LastState { cn, limit: looked }, &[0, 0, 0, 10_000, cost(10_000), looked])?;
-    asked.expect(Question::LastState { cn: IN_BOUNDS + 1, limit: all }, &[0, 0, 0, 0, 0, all])?;
-    asked.expect_instruction(all, &Claim::small(IN_BOUNDS, IN_BOUNDS, 0), MAX_ROWS - 3, 3)?;
+    let last_state = |cn, limit| Question::LastState { cn, limit };
+    let looked = all - 9_999;
+    let claim = Claim::small(IN_BOUNDS, IN_BOUNDS, 0);
+    asked.expect_unseen(last_state(1, all), &[0, 0, 0, 1, cost(1), all])?;
+    asked.expect_unseen(last_state(1, all - 1), &last_state(1, 0).refused(14))?;
+    asked.expect_unseen(last_state(10_000, looked), &[0, 0, 0, 10_000, cost(10_000), looked])?;
+    asked.expect_unseen(last_state(IN_BOUNDS + 1, all), &[0, 0, 0, 0, 0, all])?;
+    let rows = (MAX_ROWS - 3) * ROW_BYTES..MAX_ROWS * ROW_BYTES;
+    asked.expect_unseen(Question::Rows { k: all }, &library::rows_answer(Ok(rows)))?;
+    asked.expect_unseen(Question::Claim { k: all }, &library::claim_answer(Ok(claim)))?;
+    asked.untouched()?;
     Ok(asked.answers())
 }

@@ -1,9 +1,10 @@
 //! The calls over a trace as questions, and what the library and the reference answer to them.
 
+use mxp::raw::{ClaimAnswer, OpenAnswer, RowsAnswer, StateAnswer, StepAnswer};
 use reference::{Refusal, Trace, Walker};
 
 use crate::Outcome;
-use crate::library::{self, ClaimAnswer, OpenAnswer, RowsAnswer, StateAnswer, StepAnswer};
+use crate::library;
 use crate::margins::answered_over;
 
 /// A call over a trace.

@@ -5,7 +5,7 @@ use reference::row::Column::*;
 use reference::{Draft, MAX_ROWS, ROW_BYTES};
 
 use crate::Outcome;
-use crate::full_size::{empty, in_bounds, out_of_bounds};
+use crate::check::full_size::{empty, in_bounds, out_of_bounds};
 use crate::trace_calls::asked::Asked;
 use crate::trace_calls::question::Question;
 use crate::trace_calls::scenes;

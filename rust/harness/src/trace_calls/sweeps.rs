@@ -5,7 +5,7 @@ use reference::row::Column::OOOB;
 use reference::{BOUND, Claim, Draft, MAX_ROWS, ROW_BYTES, Wide};
 
 use crate::Outcome;
-use crate::full_size::in_bounds;
+use crate::check::full_size::in_bounds;
 use crate::trace_calls::asked::Asked;
 use crate::trace_calls::question::Question;
 

@@ -3,8 +3,8 @@
 use std::path::Path;
 
 use crate::Outcome;
+use crate::check::vector_files::for_each_trace;
 use crate::trace_calls::everything;
-use crate::vector_files::for_each_trace;
 
 /// Compares on every vector of a folder; answers how many answers there were.
 pub fn compare_all(folder: &Path) -> Outcome<usize> {

@@ -1,32 +1,49 @@
--- `checker::judge::broken_constraint` answers the first broken constraint of row i by `broken-is`: the rows in hand are those before it, and all
--- of them meet the constraints.
+-- `checker::judge::broken_constraint` answers 0 for a row that is told to meet all constraints (`met-by-bytes`), and else as `named_constraint`.
+use borrow.Author.Tests.{ltb-true}
 use borrow.Author.Needs.{needs}
-use Rattle.row.specs.Plain.{plain}
-use Rattle.model.specs.Columns.{rowAt}
-use Rattle.checker.proofs.RowLaws.{broken-is}
+use Rattle.number.proofs.TestLaws.{both}
+use Rattle.checker.proofs.RowLaws.{met-by-bytes}
 use Rattle.checker.proofs.judge.broken_constraint.Statement.{statement}
 use Rattle.checker.proofs.judge.broken_constraint.Tie as tie
 
-keeps-state-requires : tie.Need-keeps-state-requires
-keeps-state-requires c κs = search needs
+add-if1 : tie.Need-add-if1
+add-if1 c = search needs
 
-rule25-requires : tie.Need-rule25-requires
-rule25-requires c κs = search needs
+mul-x : tie.Need-mul-x
+mul-x c = search needs
 
-add-first-broken : tie.Need-add-first-broken
-add-first-broken c = search needs
+sub-b : tie.Need-sub-b
+sub-b c = search (needs, ltb-true 1 (c .before .before .args .i) (both _ _ (c .if1 .taken) .0))
 
-first-broken-requires : tie.Need-first-broken-requires
-first-broken-requires c κs = search needs
+sub-meets : tie.Need-sub-meets
+sub-meets c = search (needs, ltb-true 1 (c .before .before .args .i) (both _ _ (c .if1 .taken) .0))
+
+meets-requires : tie.Need-meets-requires
+meets-requires c κs = search needs
 
 returns : tie.Need-returns
 returns c =
-    let start = c .before .before .before .before in
+    let inner = c .before .before in
+    let start = inner .before .before in
     let a = start .args in
-    let e = broken-is (rowAt (a .t .now)) (a .n) (a .i) (plain (a .a)) (plain (a .b)) (plain (a .x)) (start .pre .1 .1 .0) (start .pre .1 .1 .1) in
-    cc
+    let (some, more) = both _ _ (inner .if1 .taken) in
+    met-by-bytes _ (a .n) (a .i) _ (start .pre .1 .1) (ltb-true _ _ some) (ltb-true _ _ more) (c .before .meets .ensures (c .if2 .taken))
+
+named-constraint-requires : tie.Need-named-constraint-requires
+named-constraint-requires c κs = search needs
+
+returns-2 : tie.Need-returns-2
+returns-2 c = c .named-constraint .ensures
 
 pub broken-constraint-spec : {M : Type 1} → statement M
 broken-constraint-spec =
     tie.close
-    (tie.spec keeps-state-requires rule25-requires add-first-broken first-broken-requires returns)
+    (tie.spec
+    add-if1
+    mul-x
+    sub-b
+    sub-meets
+    meets-requires
+    returns
+    named-constraint-requires
+    returns-2)

@@ -1,54 +1,96 @@
--- `checker::judge::verdict_on`: before row i the two rows before it are in hand, the rows below it meet all constraints (`InHand`), and they are
--- counted. The rows that are left fall. A row that breaks a constraint ends the judgement (`told-broken`); past the last, all meet (`told-accepted`).
-use Prim.Native.Nat.{_≤_, _-_}
-use mathlib.Core.Path.{_≡_, sym, _∙_}
+-- `checker::judge::verdict_on`: before row i the rows below it meet all constraints and are noted and counted, and `cycles` is STAMP of the row before.
+-- The rows that are left fall. A row that breaks a constraint ends the judgement (`told-broken`); past the last, all meet (`told-accepted`).
+use Prim.Native.Nat.{_-_, _≤_}
+use mathlib.Core.Path.{_≡_, sym, _∙_, ap, refl}
+use native.Mathlib.Numerals.{add-one}
 use native.Mathlib.Omega.{arith}
 use borrow.Author.Needs.{needs}
-use Rattle.model.specs.Columns.{rowAt, table}
+use Rattle.model.specs.Columns.{Cells, rowAt, table}
 use Rattle.model.specs.Cycles.{counts}
-use Rattle.row.specs.Plain.{plain}
-use Rattle.checker.specs.Rows.{InHand, plainCounts}
+use Rattle.model.specs.Verdict.{rowBefore, brokenAt, judged, meet}
+use Rattle.recent.specs.Notes.{Notes}
+use Rattle.recent.proofs.NoteLaws.{notes-first}
+use Rattle.row.proofs.PlaceLaws.{from-row}
+use Rattle.checker.specs.Rows.{plainCounts}
+use Rattle.checker.proofs.RowLaws.{broken-is, meets-first, meets-next, told-broken, told-accepted, room, counted-next, counted-cells}
 use Rattle.checker.proofs.CountLaws.{counts-none}
-use Rattle.checker.proofs.RowLaws.{hand-first, hand-next, told-broken, told-accepted, room, counted-next}
 use Rattle.checker.proofs.judge.verdict_on.Statement.{statement}
 use Rattle.checker.proofs.judge.verdict_on.Tie as tie
 
 abbrev Inv-loop : tie.InvT-loop
-Inv-loop t n c₀ two₀ one₀ i₀ c two one i =
-    (i ≤ n) × InHand (rowAt t) n i (plain two) (plain one) × (plainCounts c ≡ counts (table i (rowAt t)))
+Inv-loop t n c₀ notes₀ cycles₀ i₀ c notes cycles i =
+    (i ≤ n) × (judged (brokenAt (rowAt t) n) i ≡ meet) × Notes notes (rowAt t) i × (cycles ≡ rowBefore (rowAt t) i .stamp)
+    × (plainCounts c ≡ counts (table i (rowAt t)))
 
 abbrev μ-loop : tie.MeasureT-loop
-μ-loop t n c₀ two₀ one₀ i₀ c two one i = n - i
-
-empty-row-requires : tie.Need-empty-row-requires Inv-loop μ-loop
-empty-row-requires c κs = search needs
-
-empty-row-requires-2 : tie.Need-empty-row-requires-2 Inv-loop μ-loop
-empty-row-requires-2 c κs = search needs
+μ-loop t n c₀ notes₀ cycles₀ i₀ c notes cycles i = n - i
 
 loop-holds : tie.Need-loop-holds Inv-loop μ-loop
-loop-holds c = (omega arith, hand-first _ _ _ _ (c .before .empty-row .ensures) (c .empty-row2 .ensures), sym (counts-none _))
+loop-holds c = (omega arith, meets-first _ _, notes-first _, refl, sym (counts-none _))
 
-read-row-requires : tie.Need-read-row-requires Inv-loop μ-loop
-read-row-requires c κs = omega arith
+keeps-state-requires : tie.Need-keeps-state-requires Inv-loop μ-loop
+keeps-state-requires c κs =
+    let l = c .before .before .loop in
+    (omega arith, l .inv .2)
 
 broken-constraint-requires : tie.Need-broken-constraint-requires Inv-loop μ-loop
 broken-constraint-requires c κs =
-    let l = c .before .before .loop in
-    (omega arith, (c .before .loop-test .taken, (l .inv .1, c .read-row .ensures)))
+    let turn = c .before .before in
+    (omega arith, (turn .loop-test .taken, turn .before .loop .inv .1))
+
+-- the constraint that the row breaks first
+broken-here : (c : tie.After-broken-constraint Inv-loop μ-loop)
+    → let at = c .before .before .before .before in
+    let a = at .before .before .args in
+    c .broken-constraint .result ≡ brokenAt (rowAt (a .t .now)) (a .n) (at .loop .i)
+broken-here c =
+    let nine = c .before in
+    let l = nine .before .before .before .loop in
+    c .broken-constraint .ensures ∙ rw (nine .keeps-state .ensures, l .inv .3) (broken-is _ _ _ _ (l .inv .1) (l .inv .2))
 
 returns : tie.Need-returns Inv-loop μ-loop
 returns c =
     let judged = c .before in
-    let l = judged .before .before .before .loop in
-    told-broken _ _ _ _ _ _ (judged .before .before .loop-test .taken) (l .inv .1) (judged .broken-constraint .ensures) (omega arith)
+    let turn = judged .before .before .before in
+    let l = turn .before .loop in
+    told-broken _ _ (l .i) _ (turn .loop-test .taken) (l .inv .1) (broken-here judged) (omega arith)
 
-count-row-requires : tie.Need-count-row-requires Inv-loop μ-loop
-count-row-requires c κs =
-    let inside = c .before .before .before in
-    let l = inside .before .loop in
-    let some = room _ (l .i) (l .c) (omega arith) (l .inv .2) in
+mul-x : tie.Need-mul-x Inv-loop μ-loop
+mul-x c = search needs
+
+add-u32-at : tie.Need-add-u32-at Inv-loop μ-loop
+add-u32-at c = search needs
+
+u32-at-requires : tie.Need-u32-at-requires Inv-loop μ-loop
+u32-at-requires c κs = search needs
+
+add-u8-at : tie.Need-add-u8-at Inv-loop μ-loop
+add-u8-at c = search needs
+
+u8-at-requires : tie.Need-u8-at-requires Inv-loop μ-loop
+u8-at-requires c κs = search needs
+
+add-u8-at-2 : tie.Need-add-u8-at-2 Inv-loop μ-loop
+add-u8-at-2 c = search needs
+
+u8-at-requires-2 : tie.Need-u8-at-requires-2 Inv-loop μ-loop
+u8-at-requires-2 c κs = search needs
+
+count-cells-requires : tie.Need-count-cells-requires Inv-loop μ-loop
+count-cells-requires c κs =
+    let l = c .before .before .before .before .before .before .before .before .loop in
+    let some = room _ (l .i) (l .c) (omega arith) (l .inv .4) in
     (some .instructions, (some .oob, some .empty))
+
+note-row-requires : tie.Need-note-row-requires Inv-loop μ-loop
+note-row-requires c κs =
+    let stamp = c .before .before .before .before in
+    let at = stamp .before .before .before .before .before .before in
+    let row = from-row (at .before .before .args .t .now) (at .loop .i) in
+    (omega arith, (omega arith, (stamp .u32-at .ensures ∙ ap (λ (y : Cells). y .stamp) row, at .loop .inv .2)))
+
+cast-cycles : tie.Need-cast-cycles Inv-loop μ-loop
+cast-cycles c = search needs
 
 add-i : tie.Need-add-i Inv-loop μ-loop
 add-i c = search needs
@@ -58,17 +100,30 @@ loop-less c = search needs
 
 loop-again : tie.Need-loop-again Inv-loop μ-loop
 loop-again c =
-    let judged = c .before .before in
-    let l = judged .before .before .before .loop in
-    let x = judged .before .read-row .ensures in
+    let count = c .before .before in
+    let ct = count .before in
+    let ooob = ct .before in
+    let stamp = ooob .before in
+    let judged = stamp .before .before in
+    let at = judged .before .before .before .before in
+    let l = at .loop in
+    let row = from-row (at .before .before .args .t .now) (l .i) in
+    let stamp-is = stamp .u32-at .ensures ∙ ap (λ (y : Cells). y .stamp) row in
     let zero : judged .broken-constraint .result ≡ 0 = omega arith in
-    let meets = sym (judged .broken-constraint .ensures) ∙ zero in
-    (omega arith, hand-next _ _ _ _ _ _ (l .inv .1) x meets, counted-next _ _ _ _ _ (l .inv .2) x (c .count-row .ensures))
+    let counted =
+    counted-cells _ _ _ _ _ _ stamp-is (ooob .u8-at .ensures ∙ ap (λ (y : Cells). y .ooob) row) (ct .u8-at2 .ensures ∙ ap (λ (y : Cells). y .ct) row)
+    (count .count-cells .ensures) in (
+      omega arith,
+      meets-next _ _ _ (l .inv .1) (sym (broken-here judged) ∙ zero),
+      rw (add-one (l .i)) (c .note-row .ensures),
+      rw (add-one (l .i)) stamp-is,
+      counted-next _ _ _ _ _ (l .inv .4) refl counted,
+    )
 
 returns-2 : tie.Need-returns-2 Inv-loop μ-loop
 returns-2 c =
     let l = c .before .loop in
-    told-accepted _ _ _ _ _ _ (omega arith) (l .inv .1) (l .inv .2)
+    told-accepted _ _ _ (l .i) (omega arith) (l .inv .1) (l .inv .4)
 
 pub verdict-on-spec : {M : Type 1} → statement M
 verdict-on-spec =
@@ -76,13 +131,20 @@ verdict-on-spec =
     (tie.spec
     Inv-loop
     μ-loop
-    empty-row-requires
-    empty-row-requires-2
     loop-holds
-    read-row-requires
+    keeps-state-requires
     broken-constraint-requires
     returns
-    count-row-requires
+    mul-x
+    add-u32-at
+    u32-at-requires
+    add-u8-at
+    u8-at-requires
+    add-u8-at-2
+    u8-at-requires-2
+    count-cells-requires
+    note-row-requires
+    cast-cycles
     add-i
     loop-less
     loop-again

@@ -1,6 +1,6 @@
--- `filler::write::put_lines` meets its contract. The invariant is Filling: the lines up to a place were read, and the cycles of their instructions are
--- written, up to a row; filling-next is one turn. The measure is the lines left. As the text is a list, a line that is left is an instruction
--- (filling-line), and after the last one all cycles are written (filling-all).
+-- `filler::write::put_lines` meets its contract. The invariant is Filling: the lines up to a place were read, and the trace of their instructions is written,
+-- up to a row, with notes on its rows; filling-next is one turn. The measure is the lines left. As the text is a list, a line that is left is an instruction
+-- (filling-line), and after the last one the trace of all is written (filling-all).
 use Prim.Native.Nat.{_+_, _-_, _≤_}
 use mathlib.Core.Logic.{⊎-elim}
 use mathlib.Core.Path.{_≡_, sym, _∙_}
@@ -14,10 +14,10 @@ use Rattle.filler.proofs.write.put_lines.Statement.{statement}
 use Rattle.filler.proofs.write.put_lines.Tie as tie
 
 abbrev Inv-loop : tie.InvT-loop
-Inv-loop list lines buf₀ first at₀ row₀ done₀ buf at row done = (done ≤ lines) × Filling list buf₀ buf first at row done
+Inv-loop list lines buf₀ first notes₀ at₀ row₀ done₀ buf notes at row done = (done ≤ lines) × Filling list buf₀ buf notes first at row done
 
 abbrev μ-loop : tie.MeasureT-loop
-μ-loop list lines buf₀ first at₀ row₀ done₀ buf at row done = lines - done
+μ-loop list lines buf₀ first notes₀ at₀ row₀ done₀ buf notes at row done = lines - done
 
 loop-holds : tie.Need-loop-holds Inv-loop μ-loop
 loop-holds c = (search needs, filling-first _ _ _)
@@ -53,7 +53,7 @@ turn : (c : tie.After-claim-of Inv-loop μ-loop)
     let l = line .before .before .before .before .loop in
     let a = line .before .before .before .before .before .before .before .args in
     let one = line .line .given .0 in
-    Turn (a .list .now) (a .buf .now) (l .buf) (a .first) (a .lines) (l .at) (l .row) (l .done) (one .1 .0) (one .0) (c .claim-of .result)
+    Turn (a .list .now) (a .buf .now) (l .buf) (l .notes) (a .first) (a .lines) (l .at) (l .row) (l .done) (one .1 .0) (one .0) (c .claim-of .result)
 turn c =
     let line = c .before .before in
     let read = line .before .before in
@@ -61,8 +61,10 @@ turn c =
     let start = l .before .before .before in
     record {
       lists = start .pre .0;
-      few = start .pre .1 .0;
-      room = start .pre .1 .1;
+      some = start .pre .1 .0;
+      empty = start .pre .1 .1 .0;
+      few = start .pre .1 .1 .1 .0;
+      room = start .pre .1 .1 .1 .1;
       filling = l .loop .inv .1;
       less = read .before .loop-test .taken;
       told = sym (read .next-line .ensures) ∙ line .line .given .1;
@@ -70,24 +72,33 @@ turn c =
     }
 
 put-claim-requires : tie.Need-put-claim-requires Inv-loop μ-loop
-put-claim-requires c κs = next-asked (turn (c .before))
+put-claim-requires c κs = next-asked (turn (c .before .before))
 
 rows-of-requires : tie.Need-rows-of-requires Inv-loop μ-loop
 rows-of-requires c κs = search needs
 
 add-row : tie.Need-add-row Inv-loop μ-loop
-add-row c = omega (arith, rows-within (turn (c .before .before .before .before .before)), c .rows-of .ensures)
+add-row c = omega (arith, rows-within (turn (c .before .before .before .before .before .before)), c .rows-of .ensures)
+
+sub-note : tie.Need-sub-note Inv-loop μ-loop
+sub-note c = omega (arith, c .before .rows-of .ensures)
+
+note-requires : tie.Need-note-requires Inv-loop μ-loop
+note-requires c κs =
+    let rows = c .before in
+    omega (arith, rows-within (turn (rows .before .before .before .before .before .before)), rows .rows-of .ensures)
 
 add-done : tie.Need-add-done Inv-loop μ-loop
-add-done c = search needs
+add-done c = omega (arith, next-asked (turn (c .before .before .before .before .before .before .before .before)) .1 .0)
 
 loop-less : tie.Need-loop-less Inv-loop μ-loop
 loop-less c = search needs
 
 loop-again : tie.Need-loop-again Inv-loop μ-loop
 loop-again c =
-    let put = c .before .before .before in
-    (search needs, rw (c .rows-of .ensures, add-one) (filling-next (turn (put .before .before)) (put .put-claim .ensures)))
+    let rows = c .before .before in
+    let put = rows .before .before .before in
+    (search needs, rw add-one (filling-next (turn (put .before .before .before)) (rows .rows-of .ensures) (put .put-claim .ensures) (c .note .ensures)))
 
 same-length-2 : tie.Need-same-length-2 Inv-loop μ-loop
 same-length-2 c = length-kept (c .before .loop .inv .1)
@@ -111,6 +122,8 @@ put-lines-spec =
     put-claim-requires
     rows-of-requires
     add-row
+    sub-note
+    note-requires
     add-done
     loop-less
     loop-again

@@ -16,8 +16,11 @@ same-requires c κs = search needs
 
 returns : tie.Need-returns
 returns c =
-    let a = c .before .before .before .args in
-    cc (eqb-below (256 ^ 17) (a .p .top) (val (c .before .push .result)) (256 * val (a .p) + a .b) (val (a .a)) (c .before .push .ensures) (val-lt (a .a) (omega arith) (omega arith) (omega arith)))
+    let called = c .before in
+    let a = called .before .before .args in
+    let fits = val-lt (a .a) (omega arith) (omega arith) (omega arith) in
+    rw (c .same .ensures)
+    (eqb-below (256 ^ 17) (a .p .top) (val (called .push .result)) (256 * val (a .p) + a .b) (val (a .a)) (called .push .ensures) fits)
 
 pub is-next-spec : {M : Type 1} → statement M
 is-next-spec = tie.close (tie.spec push-requires same-requires returns)

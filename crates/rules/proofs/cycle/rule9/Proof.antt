@@ -1,6 +1,5 @@
 -- `rules::cycle::rule9` meets its contract: each word in it is put for what it says.
 use borrow.Author.Needs.{needs}
-use Rattle.model.specs.Constraints.{k9}
 use Rattle.rules.proofs.cycle.rule9.Statement.{statement}
 use Rattle.rules.proofs.cycle.rule9.Tie as tie
 
@@ -11,7 +10,6 @@ implies-requires : tie.Need-implies-requires
 implies-requires c κs = search needs
 
 returns : tie.Need-returns
-unfolding k9
 returns c = rw (c .implies .ensures, c .before .before .wide .ensures .0)
 
 pub rule9-spec : {M : Type 1} → statement M

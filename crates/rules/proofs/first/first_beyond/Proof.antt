@@ -2,7 +2,7 @@
 use borrow.Author.Tests.{ne-eqb, eq-eqb}
 use borrow.Author.Needs.{needs}
 use Rattle.rules.specs.First.{firstOr}
-use Rattle.rules.proofs.WordLaws.{through}
+use Rattle.words.proofs.WordLaws.{through}
 use Rattle.rules.proofs.FirstLaws.{link, shut, opened}
 use Rattle.rules.proofs.first.first_beyond.Statement.{statement}
 use Rattle.rules.proofs.first.first_beyond.Tie as tie

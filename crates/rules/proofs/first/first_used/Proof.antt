@@ -7,7 +7,7 @@ use borrow.Author.Needs.{needs}
 use Rattle.row.specs.Plain.{plain}
 use Rattle.rules.specs.First.{firstOr, withinTests}
 use Rattle.model.specs.Constraints.{inUse}
-use Rattle.rules.proofs.WordLaws.{through}
+use Rattle.words.proofs.WordLaws.{through}
 use Rattle.rules.proofs.FirstLaws.{link, link-all, shut, used-opened}
 use Rattle.rules.proofs.first.first_used.Statement.{statement}
 use Rattle.rules.proofs.first.first_used.Tie as tie

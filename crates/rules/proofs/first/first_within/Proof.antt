@@ -4,7 +4,7 @@ use mathlib.Core.Path.{refl}
 use borrow.Author.Tests.{ne-eqb, eq-eqb}
 use borrow.Author.Needs.{needs}
 use Rattle.rules.specs.First.{firstOr, lastRowTests}
-use Rattle.rules.proofs.WordLaws.{through}
+use Rattle.words.proofs.WordLaws.{through}
 use Rattle.rules.proofs.FirstLaws.{link, link-all, shut, opened}
 use Rattle.rules.proofs.first.first_within.Statement.{statement}
 use Rattle.rules.proofs.first.first_within.Tie as tie

@@ -1,25 +1,15 @@
--- `rules::steps::rule4` meets its contract: each word in it is put for what it says.
+-- `rules::steps::rule4` meets its contract, by that of `ct_follows`.
 use borrow.Author.Needs.{needs}
-use Rattle.model.specs.Steps.{ctMoves}
 use Rattle.model.specs.Constraints.{k4}
 use Rattle.rules.proofs.steps.rule4.Statement.{statement}
 use Rattle.rules.proofs.steps.rule4.Tie as tie
 
-byte-requires : tie.Need-byte-requires
-byte-requires c κs = search needs
-
-byte-requires-2 : tie.Need-byte-requires-2
-byte-requires-2 c κs = search needs
-
-add-pick : tie.Need-add-pick
-add-pick c = search needs
-
-pick-requires : tie.Need-pick-requires
-pick-requires c κs = search needs
+ct-follows-requires : tie.Need-ct-follows-requires
+ct-follows-requires c κs = search needs
 
 returns : tie.Need-returns
-unfolding k4 ctMoves
-returns c = rw (c .pick .ensures, c .before .byte2 .ensures .0, c .before .before .byte .ensures .0)
+unfolding k4
+returns c = c .ct-follows .ensures
 
 pub rule4-spec : {M : Type 1} → statement M
-rule4-spec = tie.close (tie.spec byte-requires byte-requires-2 add-pick pick-requires returns)
+rule4-spec = tie.close (tie.spec ct-follows-requires returns)

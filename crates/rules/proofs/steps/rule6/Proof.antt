@@ -1,11 +1,16 @@
 -- `rules::steps::rule6` meets its contract: with STAMP not 0 there is nothing to test, else `all_zero` is the test.
-use mathlib.Core.Path.{_∙_}
+use mathlib.Core.Bool.{Bool, true}
+use mathlib.Core.Path.{_≡_, _∙_}
 use borrow.Author.Tests.{ne-eqb, eq-eqb}
 use borrow.Author.Needs.{needs}
 use Rattle.model.specs.Constraints.{k6}
-use Rattle.rules.proofs.WordLaws.{made}
+use Rattle.model.specs.Tests.{implies}
 use Rattle.rules.proofs.steps.rule6.Statement.{statement}
 use Rattle.rules.proofs.steps.rule6.Tie as tie
+
+-- a test under a condition that holds is made
+made : {g t : Bool} → g ≡ true → t ≡ implies g t
+made e = rw e
 
 returns : tie.Need-returns
 unfolding k6

@@ -1,0 +1,56 @@
+// Big-endian numbers of 1, 3, 4 and 17 bytes, written to a lent slice, whose other bytes stay. Only crates of this
+// repository call these writers: each asks that there is room.
+ghost use mathlib.Core.Path.{_≡_};
+ghost use Prim.Native.Nat.{_+_, _≤_};
+ghost use lib.ListN.{length};
+ghost use lib.Seq.{sets};
+ghost use Rattle.number.specs.Num.{be};
+ghost use Rattle.number.specs.Whole.{val};
+use number::wide::Wide;
+
+// The byte v at `at`.
+pub fn put_u8(buf: &mut [u8], at: usize, v: u8)
+    requires { ⌜ at + 1 ≤ length (now buf) ⌝ }
+    ensures { λ _. ⌜ now (buf .exit) ≡ sets (now (buf .entry)) at (be 1 v) ⌝ }
+{
+    buf[at] = v;
+}
+
+// The last three bytes of v from `at` on.
+pub fn put_u24(buf: &mut [u8], at: usize, v: u32)
+    requires { ⌜ at + 3 ≤ length (now buf) ⌝ }
+    ensures { λ _. ⌜ now (buf .exit) ≡ sets (now (buf .entry)) at (be 3 v) ⌝ }
+{
+    buf[at] = (v / 65536 % 256) as u8;
+    buf[at + 1] = (v / 256 % 256) as u8;
+    buf[at + 2] = (v % 256) as u8;
+}
+
+// The four bytes of v from `at` on.
+pub fn put_u32(buf: &mut [u8], at: usize, v: u32)
+    requires { ⌜ at + 4 ≤ length (now buf) ⌝ }
+    ensures { λ _. ⌜ now (buf .exit) ≡ sets (now (buf .entry)) at (be 4 v) ⌝ }
+{
+    put_u8(buf, at, (v / 16777216) as u8);
+    put_u24(buf, at + 1, v % 16777216);
+}
+
+// The eight bytes of v from `at` on, by its halves.
+fn put_u64(buf: &mut [u8], at: usize, v: u64)
+    requires { ⌜ at + 8 ≤ length (now buf) ⌝ }
+    ensures { λ _. ⌜ now (buf .exit) ≡ sets (now (buf .entry)) at (be 8 v) ⌝ }
+{
+    put_u32(buf, at, (v / 4294967296) as u32);
+    put_u32(buf, at + 4, (v % 4294967296) as u32);
+}
+
+// The 17 bytes of v from `at` on.
+pub fn put_wide(buf: &mut [u8], at: usize, v: Wide)
+    requires { ⌜ at + 17 ≤ length (now buf) ⌝ }
+    ensures { λ _. ⌜ now (buf .exit) ≡ sets (now (buf .entry)) at (be 17 (val v)) ⌝ }
+{
+    put_u8(buf, at, v.top);
+    let next = at + 1;
+    put_u64(buf, next, v.hi);
+    put_u64(buf, next + 8, v.lo);
+}

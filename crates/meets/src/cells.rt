@@ -1,0 +1,81 @@
+// Cells of the row at a place, and what is asked of several of them.
+ghost use mathlib.Core.Path.{_≡_};
+ghost use Prim.Native.Nat.{_+_, _≤_, _<_};
+ghost use lib.Dec.{eqb};
+ghost use lib.ListN.{length};
+ghost use Rattle.number.specs.Num.{num};
+ghost use Rattle.model.specs.Columns.{rowBytes};
+ghost use Rattle.model.specs.Constraints as constraints;
+ghost use Rattle.model.specs.Tests.{zeros, sumsUp};
+ghost use Rattle.row.specs.Plain.{from};
+use cell::read::u8_at;
+use cell::read::u32_at;
+use row::place;
+use words::amounts;
+
+// How many numbers three bytes hold, 256^3.
+const THREE_BYTES: u32 = 16777216;
+
+// The number in the three bytes from p on, read with the byte before them: four bytes are one load.
+pub(crate) fn u24_near(t: &[u8], p: usize) -> u32
+    requires { ⌜ 0 < p ⌝ }
+    requires { ⌜ p + 3 ≤ length (now t) ⌝ }
+    ensures { λ r. ⌜ r ≡ num (now (t .entry)) p 3 ⌝ }
+{
+    u32_at(t, p - 1) % THREE_BYTES
+}
+
+// Whether the three bytes from p on are those from q on.
+pub(crate) fn same_three(t: &[u8], p: usize, q: usize) -> bool
+    requires { ⌜ p + 3 ≤ length (now t) ⌝ }
+    requires { ⌜ q + 3 ≤ length (now t) ⌝ }
+    ensures { λ r. ⌜ r ≡ eqb (num (now (t .entry)) p 3) (num (now (t .entry)) q 3) ⌝ }
+{
+    (t[p] == t[q]) & (t[p + 1] == t[q + 1]) & (t[p + 2] == t[q + 2])
+}
+
+// Whether the byte that stands `byte` bytes after x sums up into the three bytes that stand `acc` bytes after it; the row before is at b. One place on means
+// that each byte of the sum before moves up by one, the first of them being 0, and the byte comes last.
+pub(crate) fn sums_at(t: &[u8], b: usize, x: usize, ct: u8, byte: usize, acc: usize) -> bool
+    requires { ⌜ b + acc + 3 ≤ length (now t) ⌝ }
+    requires { ⌜ x + acc + 3 ≤ length (now t) ⌝ }
+    requires { ⌜ x + byte + 1 ≤ length (now t) ⌝ }
+    ensures { λ r. ⌜ r ≡ sumsUp ct (num (now (t .entry)) (b + acc) 3) (num (now (t .entry)) (x + byte) 1) (num (now (t .entry)) (x + acc) 3) ⌝ }
+{
+    let y = x + acc;
+    let last = t[y + 2] == t[x + byte];
+    if ct == 0 {
+        return (t[y] == 0) & (t[y + 1] == 0) & last;
+    }
+    let before = b + acc;
+    (t[before] == 0) & (t[y] == t[before + 1]) & (t[y + 1] == t[before + 2]) & last
+}
+
+// MEMN=MEM, COSTN=COST, GAS=0.
+pub(crate) fn stays(t: &[u8], x: usize) -> bool
+    requires { ⌜ x + rowBytes ≤ length (now t) ⌝ }
+    ensures { λ r. ⌜ r ≡ constraints.stays (from (now (t .entry)) x) ⌝ }
+{
+    amounts::stays(
+        u24_near(t, x + place::MEM),
+        u24_near(t, x + place::MEMN),
+        u32_at(t, x + place::COST),
+        u32_at(t, x + place::COSTN),
+        u32_at(t, x + place::GAS),
+    )
+}
+
+// The Q and AUX cells are 0.
+pub(crate) fn quotients_zero(t: &[u8], x: usize) -> bool
+    requires { ⌜ x + rowBytes ≤ length (now t) ⌝ }
+    ensures { λ r. ⌜ r ≡ zeros (constraints.quotients (from (now (t .entry)) x)) ⌝ }
+{
+    (u24_near(t, x + place::Q1) == 0)
+        & (u8_at(t, x + place::Q1BYTE) == 0)
+        & (u24_near(t, x + place::Q1ACC) == 0)
+        & (u32_at(t, x + place::Q2) == 0)
+        & (u8_at(t, x + place::Q2BYTE) == 0)
+        & (u24_near(t, x + place::Q2ACC) == 0)
+        & (u8_at(t, x + place::AUX1) == 0)
+        & (u8_at(t, x + place::AUX2) == 0)
+}

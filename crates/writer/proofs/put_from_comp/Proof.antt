@@ -1,0 +1,22 @@
+-- `writer::put_from_comp` meets its contract. In the order of the code: each place fits and has room; then the length stays, and
+-- the stores are those of the columns.
+use borrow.Author.Needs.{needs}
+use Rattle.writer.proofs.put_from_comp.Statement.{statement}
+use Rattle.writer.proofs.put_from_comp.Tie as tie
+
+pub put-from-comp-spec : {M : Type 1} → statement M
+put-from-comp-spec =
+    tie.close
+    (tie.spec
+    (λ c. search needs)
+    (λ c κs. search needs)
+    (λ c. search needs)
+    (λ c κs. search needs)
+    (λ c. search needs)
+    (λ c κs. search needs)
+    (λ c. search needs)
+    (λ c κs. search needs)
+    (λ c. search needs)
+    (λ c κs. search needs)
+    (λ c. search needs)
+    (λ c. cc))

@@ -1,0 +1,24 @@
+-- `writer::put_from_end1` meets its contract. In the order of the code: each place fits and has room; then the length stays, and
+-- the stores are those of the columns.
+use borrow.Author.Needs.{needs}
+use Rattle.writer.proofs.put_from_end1.Statement.{statement}
+use Rattle.writer.proofs.put_from_end1.Tie as tie
+
+pub put-from-end1-spec : {M : Type 1} → statement M
+put-from-end1-spec =
+    tie.close
+    (tie.spec
+    (λ c. search needs)
+    (λ c κs. search needs)
+    (λ c. search needs)
+    (λ c κs. search needs)
+    (λ c. search needs)
+    (λ c κs. search needs)
+    (λ c. search needs)
+    (λ c κs. search needs)
+    (λ c. search needs)
+    (λ c κs. search needs)
+    (λ c. search needs)
+    (λ c κs. search needs)
+    (λ c. search needs)
+    (λ c. cc))

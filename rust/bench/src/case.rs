@@ -1,0 +1,233 @@
+//! A call on an input: how it is measured, and what it took.
+
+use std::hint::black_box;
+use std::mem;
+use std::time::Duration;
+
+use reference::ROW_BYTES;
+
+use crate::Outcome;
+use crate::call::{Answer, Call};
+use crate::input::{Input, Lent, MOST_IN_BOUNDS};
+use crate::timing::{Budget, Times, quickest};
+
+/// What a measured time must not pass.
+#[derive(Clone, Copy, Debug, PartialEq)]
+pub enum Floor {
+    /// So many times what the reference takes.
+    Ratio(f64),
+    /// So long.
+    Time(Duration),
+}
+
+/// What the library is measured beside.
+#[derive(Clone, Copy, Debug, PartialEq, Eq)]
+pub enum Beside {
+    /// The same call of the reference.
+    Reference,
+    /// One look at each byte of the trace or the buffer.
+    Reading,
+}
+
+/// A call on an input.
+#[derive(Clone, Copy, Debug)]
+pub struct Case {
+    /// The call.
+    pub call: Call,
+    /// The input.
+    pub input: Input,
+    /// What it is measured beside.
+    pub beside: Beside,
+    /// What the library must keep, or nothing is recorded.
+    pub floor: Option<Floor>,
+    /// The ratio that the library should reach.
+    pub target: Option<f64>,
+}
+
+/// The refusal of a list that makes more rows than a trace may have.
+const TOO_MANY_ROWS: u64 = 7;
+
+/// What a case took.
+#[derive(Clone, Copy)]
+pub struct Measured {
+    /// The case.
+    pub case: Case,
+    /// The times for all units.
+    pub times: Times,
+    /// How many units there are.
+    pub units: usize,
+    /// What a unit is.
+    pub unit: &'static str,
+}
+
+impl Case {
+    /// A call on an input beside the reference, without floor and target.
+    pub fn new(call: Call, input: Input) -> Case {
+        Case { call, input, beside: Beside::Reference, floor: None, target: None }
+    }
+
+    /// The name by which it is asked for: the call and the input.
+    pub fn name(&self) -> String {
+        format!("{}:{}", self.call.names().0, self.input.names().0)
+    }
+
+    /// What the call is lent.
+    pub fn lent(&self) -> Outcome<Lent> {
+        match self.call {
+            Call::Fill => Ok(self.input.with_buffer()),
+            _ => self.input.with_trace(),
+        }
+    }
+
+    /// Compares the answers of both sides, then times both.
+    pub fn measure(&self, budget: Budget) -> Outcome<Measured> {
+        let mut lent = self.lent()?;
+        let answer = self.agreed(&mut lent)?;
+        let library = |lent: &mut Lent| self.call_library(lent);
+        let other = |lent: &mut Lent| self.call_other(lent);
+        let times = quickest(budget, &mut lent, library, other);
+        let (units, unit) = self.units(&lent, &answer);
+        Ok(Measured { case: *self, times, units, unit })
+    }
+
+    /// Calls the library for its time alone.
+    pub fn call_library(&self, lent: &mut Lent) {
+        black_box(self.call.put_to_library(lent));
+    }
+
+    /// Calls what the library is measured beside, for its time alone.
+    pub fn call_other(&self, lent: &mut Lent) {
+        match self.beside {
+            Beside::Reference => drop(black_box(self.call.put_to_reference(lent))),
+            Beside::Reading => drop(black_box(sum_of_words(&lent.trace))),
+        }
+    }
+
+    /// The answer, if both sides give the same, leave the same bytes, and the call did the work that is to be measured.
+    pub fn agreed(&self, lent: &mut Lent) -> Outcome<Answer> {
+        let before = lent.trace.clone();
+        let reference = self.call.put_to_reference(lent);
+        let left = mem::replace(&mut lent.trace, before);
+        let library = self.call.put_to_library(lent);
+        let told = |what: &str| Err(format!("{}: {what}: library {library:?}, reference {reference:?}", self.name()));
+        if library != reference {
+            told("the answers differ")
+        } else if lent.trace != left {
+            told("the answers are the same, the bytes that are left differ")
+        } else if !self.is_meant(&library) {
+            told("both answer what is not meant")
+        } else {
+            Ok(library)
+        }
+    }
+
+    /// Whether an answer says that the whole input was gone through.
+    fn is_meant(&self, answer: &Answer) -> bool {
+        match self.call {
+            Call::Check => answer[..4] == [0, 0, 0, 1],
+            Call::Fill if self.input.is_too_much() => answer[0] == TOO_MANY_ROWS,
+            Call::Walk => answer[0] == MOST_IN_BOUNDS as u64,
+            _ => answer[0] == 0,
+        }
+    }
+
+    /// A walk goes by steps, a list that is refused by its bytes, all else by rows.
+    pub fn units(&self, lent: &Lent, answer: &Answer) -> (usize, &'static str) {
+        match self.call {
+            Call::Walk => (answer[0] as usize, "step"),
+            Call::Fill if self.input.is_too_much() => (lent.list.len(), "byte"),
+            Call::Fill => (answer[3] as usize, "row"),
+            _ => (lent.trace.len() / ROW_BYTES, "row"),
+        }
+    }
+}
+
+/// Reads each byte once.
+fn sum_of_words(bytes: &[u8]) -> u64 {
+    let (words, rest) = bytes.as_chunks();
+    let words = words.iter().map(|&word| u64::from_ne_bytes(word));
+    words.chain(rest.iter().map(|&byte| byte.into())).fold(0, u64::wrapping_add)
+}
+
+impl Measured {
+    /// The lesser times of two measurements of one case.
+    pub fn least(self, again: Measured) -> Measured {
+        Measured { times: self.times.least(again.times), ..self }
+    }
+
+    /// The library's time by that of what it is measured beside.
+    pub fn ratio(&self) -> f64 {
+        self.times.library.as_secs_f64() / self.times.other.as_secs_f64()
+    }
+
+    /// Nanoseconds that a unit takes, where all take so long.
+    pub fn per_unit(&self, time: Duration) -> f64 {
+        time.as_secs_f64() * 1e9 / self.units as f64
+    }
+
+    /// Whether the floor is kept, where there is one.
+    pub fn keeps_floor(&self) -> bool {
+        match self.case.floor {
+            None => true,
+            Some(Floor::Ratio(most)) => self.ratio() <= most,
+            Some(Floor::Time(most)) => self.times.library < most,
+        }
+    }
+}
+
+#[cfg(test)]
+mod tests {
+    use super::*;
+
+    fn measured(library: u64, other: u64, floor: Option<Floor>) -> Measured {
+        let times = Times { library: Duration::from_millis(library), other: Duration::from_millis(other) };
+        let case = Case { floor, ..Case::new(Call::Check, Input::Interleaved) };
+        Measured { case, times, units: 1_000, unit: "row" }
+    }
+
+    #[test]
+    fn every_case_at_a_small_size_agrees_and_one_that_is_damaged_is_no_measure() {
+        let small = Input::One { rows: 1_000 };
+        for call in [Call::Check, Call::Fill, Call::Rows { k: 333 }, Call::Claim { k: 333 }, Call::Open] {
+            let case = Case::new(call, small);
+            let mut lent = case.lent().expect("the reference fills it");
+            assert!(case.agreed(&mut lent).is_ok(), "{call:?}");
+            lent.list[0] ^= 1;
+            lent.trace[0] ^= 1;
+            let told = case.agreed(&mut lent).expect_err("both refuse it");
+            assert!(told.contains("both answer what is not meant"), "{told}");
+        }
+    }
+
+    #[test]
+    fn a_floor_of_the_ratio_is_kept_up_to_it() {
+        let floor = Some(Floor::Ratio(1.25));
+        assert!(measured(125, 100, floor).keeps_floor());
+        assert!(!measured(126, 100, floor).keeps_floor());
+        assert!(measured(126, 100, None).keeps_floor());
+    }
+
+    #[test]
+    fn a_floor_of_the_time_is_kept_below_it() {
+        let floor = Some(Floor::Time(Duration::from_secs(1)));
+        assert!(measured(999, 1, floor).keeps_floor());
+        assert!(!measured(1_000, 1_000, floor).keeps_floor());
+    }
+
+    #[test]
+    fn a_time_is_told_by_its_units() {
+        let measured = measured(3, 2, None);
+        assert_eq!(measured.per_unit(measured.times.library), 3_000.0);
+        assert_eq!(measured.ratio(), 1.5);
+    }
+
+    #[test]
+    fn every_byte_is_read() {
+        let bytes: Vec<u8> = (1..=19).collect();
+        for place in 0..bytes.len() {
+            let mut other = bytes.clone();
+            other[place] ^= 1;
+            assert_ne!(sum_of_words(&other), sum_of_words(&bytes), "byte {place}");
+        }
+    }
+}
