@@ -1,9 +1,8 @@
 #!/usr/bin/env bash
 # `bin/ground` from another folder prints what the vectors say, and a program without its vectors says so and counts nothing.
 set -euo pipefail
-root=$(cd "$(dirname "${BASH_SOURCE[0]}")/.." && pwd)
-room=$(mktemp -d)
-trap 'rm -rf "$room"' EXIT
+name=ground
+source "$(dirname "${BASH_SOURCE[0]}")/lib/room.bash"
 
 cd "$room"
 "$root/bin/ground" > out

@@ -1,13 +1,9 @@
 # What the tests of the built library share: the library itself, cargo, and commands that are shown only if they fail. To be sourced under `set -euo
 # pipefail`, with `name` set to the test's name.
-root=$(cd "$(dirname "${BASH_SOURCE[0]}")/../.." && pwd)
-room=$(mktemp -d)
-trap 'rm -rf "$room"' EXIT
+source "$(dirname "${BASH_SOURCE[0]}")/room.bash"
 export CARGO_TARGET_DIR=$root/rust/target
 export MXP_LIB_DIR=$root/target/staticlib
 library=$MXP_LIB_DIR/libmxp.a
-
-fail() { printf '%s: %s\n' "$name" "$*" >&2; exit 1; }
 
 # Runs a command with its output kept in log, to be shown only if the command fails.
 quietly() { "$@" > "$room/log" 2>&1 || { cat "$room/log" >&2; fail "failed: $*"; }; }

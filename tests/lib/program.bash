@@ -1,12 +1,8 @@
 # What the tests of a program share: it is run on its vectors and on other inputs, and what it prints is compared. To be sourced under `set -euo
 # pipefail`, with `name` set to the program's name. Document 01 says nothing of a program's exit status; only one of a time-out or a crash is a failure.
-root=$(cd "$(dirname "${BASH_SOURCE[0]}")/../.." && pwd)
+source "$(dirname "${BASH_SOURCE[0]}")/room.bash"
 program=$root/target/bin/$name
 vectors=$root/data/$name
-room=$(mktemp -d)
-trap 'rm -rf "$room"' EXIT
-
-fail() { printf '%s: %s\n' "$name" "$*" >&2; exit 1; }
 
 [ -x "$program" ] || fail "$program is not built"
 

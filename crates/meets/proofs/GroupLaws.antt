@@ -17,7 +17,7 @@ use Rattle.model.specs.Tests.{pick, implies, isDifference}
 use Rattle.model.proofs.ConstraintFacts.{says8}
 use Rattle.model.proofs.StepLaws.{same-stamp}
 use Rattle.model.proofs.TestFacts.{if-unequal-use}
-use Rattle.meets.specs.Groups.{follows, carries, sumsHold, choicesHold, endsHold, priceHolds, withinAsked, Chosen, beyondHolds}
+use Rattle.meets.specs.Groups.{follows, carries, sumsHold, choicesHold, endsHold, priceHolds, withinAsked, Chosen, beyondHolds, allAsked}
 
 -- ---- what is asked only on some rows
 
@@ -143,7 +143,7 @@ module _ (a b x : Cells) (nine : Bool) (f : follows b x ≡ true) (c : carries b
       by (no e) = record { choices = choices-inside o e chosen; late = rw (ne-eqb (x .ct) 0 e) at h }
 
   -- an instruction in bounds, where the row before it meets 15 to 17
-  pub all-within : x .ooob ≡ 0 → Chosen b → (withinAsked a b x && nine) ≡ true → firstFailed 1 (constraintsBy a b x false false nine (k25 x)) ≡ 0
+  all-within : x .ooob ≡ 0 → Chosen b → (withinAsked a b x && nine) ≡ true → firstFailed 1 (constraintsBy a b x false false nine (k25 x)) ≡ 0
   unfolding firstFailed k2 k26
   all-within o chosen h =
       let m = common in
@@ -188,7 +188,7 @@ module _ (a b x : Cells) (nine : Bool) (f : follows b x ≡ true) (c : carries b
       )
 
   -- one out of bounds
-  pub all-beyond : x .ooob ≢ 0 → (beyondHolds x && nine) ≡ true → firstFailed 1 (constraintsBy a b x false false nine (k25 x)) ≡ 0
+  all-beyond : x .ooob ≢ 0 → (beyondHolds x && nine) ≡ true → firstFailed 1 (constraintsBy a b x false false nine (k25 x)) ≡ 0
   unfolding firstFailed k2 k26
   all-beyond o h =
       let m = common in
@@ -196,3 +196,34 @@ module _ (a b x : Cells) (nine : Bool) (f : follows b x ≡ true) (c : carries b
       let (w, h9) = both (beyondHolds x) nine h in
       let (h24, h25) = both (k24 x) (k25 x) w in
       rw (m .one, m .three, m .four, m .five, m .six, m .used, m .seven, m .eight, h9, m .ten, h24, h25, one)
+
+-- where all that is asked is met and the row before meets 15 to 17, every constraint is met
+pub all-met : (a b x : Cells) (nine : Bool) → allAsked a b x nine ≡ true → Chosen b → firstFailed 1 (constraintsBy a b x false false nine (k25 x)) ≡ 0
+all-met a b x nine h chosen =
+    let (frame, rest) = both (follows b x && carries b x) (pick (eqb (x .ooob) 0) (withinAsked a b x) (beyondHolds x) && nine) h in
+    let (f, c) = both (follows b x) (carries b x) frame in
+    by f c rest (ℕ-discrete (x .ooob) 0)
+  where
+    by : follows b x ≡ true → carries b x ≡ true → (pick (eqb (x .ooob) 0) (withinAsked a b x) (beyondHolds x) && nine) ≡ true → Dec (x .ooob ≡ 0)
+        → firstFailed 1 (constraintsBy a b x false false nine (k25 x)) ≡ 0
+    by f c rest (yes o) = all-within a b x nine f c o chosen (rw (eq-eqb (x .ooob) 0 o) at rest)
+    by f c rest (no o) = all-beyond a b x nine f c o (rw (ne-eqb (x .ooob) 0 o) at rest)
+
+-- ---- what is asked, step by step
+
+module _ (a b x : Cells) (nine : Bool) where
+  -- the row does not follow
+  pub asked-no-frame : follows b x ≡ false → false ≡ allAsked a b x nine
+  asked-no-frame f = rw f
+
+  -- it does not carry on
+  pub asked-not-carried : follows b x ≡ true → carries b x ≡ false → false ≡ allAsked a b x nine
+  asked-not-carried f c = rw (f, c)
+
+  -- it does both, and is in bounds
+  pub asked-within : follows b x ≡ true → carries b x ≡ true → x .ooob ≡ 0 → (withinAsked a b x && nine) ≡ allAsked a b x nine
+  asked-within f c o = rw (f, c, eq-eqb (x .ooob) 0 o)
+
+  -- it does both, and is out of bounds
+  pub asked-beyond : follows b x ≡ true → carries b x ≡ true → x .ooob ≢ 0 → (beyondHolds x && nine) ≡ allAsked a b x nine
+  asked-beyond f c o = rw (f, c, ne-eqb (x .ooob) 0 o)

@@ -41,3 +41,7 @@ Chosen x = inUse x ≡ true → x .ooob ≡ 0 → choicesHold x ≡ true
 -- 24 and 25
 abbrev pub beyondHolds : Cells → Bool
 beyondHolds x = k24 x && k25 x
+
+-- all that is asked of a row of an instruction, where the answer to 9 is known
+abbrev pub allAsked : (a b x : Cells) → (nine : Bool) → Bool
+allAsked a b x nine = (follows b x && carries b x) && (pick (eqb (x .ooob) 0) (withinAsked a b x) (beyondHolds x) && nine)

@@ -9,8 +9,8 @@ ghost use Rattle.row.specs.Plain.{from};
 ghost use Rattle.meets.specs.Groups as groups;
 use crate::cells::quotients_zero;
 use crate::cells::stays;
-use crate::cells::u24_near;
 use cell::read::u8_at;
+use cell::read::u24_at;
 use cell::read::wide_at;
 use model::OUT_LAST;
 use row::place;
@@ -23,11 +23,11 @@ fn from_comp_zero(t: &[u8], x: usize) -> bool
 {
     (u8_at(t, x + place::COMP) == 0)
         & (u8_at(t, x + place::DBYTE) == 0)
-        & (u24_near(t, x + place::DACC) == 0)
-        & (u24_near(t, x + place::ENDMAX) == 0)
+        & (u24_at(t, x + place::DACC) == 0)
+        & (u24_at(t, x + place::ENDMAX) == 0)
         & (u8_at(t, x + place::FLAG) == 0)
         & (u8_at(t, x + place::EBYTE) == 0)
-        & (u24_near(t, x + place::EACC) == 0)
+        & (u24_at(t, x + place::EACC) == 0)
         & quotients_zero(t, x)
 }
 
@@ -38,7 +38,7 @@ pub(crate) fn meets_beyond(t: &[u8], x: usize) -> bool
 {
     let zero = stays(t, x)
         & (u8_at(t, x + place::BYTE2) == 0)
-        & (u24_near(t, x + place::ACC2) == 0)
+        & (u24_at(t, x + place::ACC2) == 0)
         & from_comp_zero(t, x);
     if u8_at(t, x + place::CT) != OUT_LAST {
         return zero;

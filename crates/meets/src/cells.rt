@@ -1,6 +1,6 @@
 // Cells of the row at a place, and what is asked of several of them.
 ghost use mathlib.Core.Path.{_≡_};
-ghost use Prim.Native.Nat.{_+_, _≤_, _<_};
+ghost use Prim.Native.Nat.{_+_, _≤_};
 ghost use lib.Dec.{eqb};
 ghost use lib.ListN.{length};
 ghost use Rattle.number.specs.Num.{num};
@@ -9,21 +9,10 @@ ghost use Rattle.model.specs.Constraints as constraints;
 ghost use Rattle.model.specs.Tests.{zeros, sumsUp};
 ghost use Rattle.row.specs.Plain.{from};
 use cell::read::u8_at;
+use cell::read::u24_at;
 use cell::read::u32_at;
 use row::place;
 use words::amounts;
-
-// How many numbers three bytes hold, 256^3.
-const THREE_BYTES: u32 = 16777216;
-
-// The number in the three bytes from p on, read with the byte before them: four bytes are one load.
-pub(crate) fn u24_near(t: &[u8], p: usize) -> u32
-    requires { ⌜ 0 < p ⌝ }
-    requires { ⌜ p + 3 ≤ length (now t) ⌝ }
-    ensures { λ r. ⌜ r ≡ num (now (t .entry)) p 3 ⌝ }
-{
-    u32_at(t, p - 1) % THREE_BYTES
-}
 
 // Whether the three bytes from p on are those from q on.
 pub(crate) fn same_three(t: &[u8], p: usize, q: usize) -> bool
@@ -57,8 +46,8 @@ pub(crate) fn stays(t: &[u8], x: usize) -> bool
     ensures { λ r. ⌜ r ≡ constraints.stays (from (now (t .entry)) x) ⌝ }
 {
     amounts::stays(
-        u24_near(t, x + place::MEM),
-        u24_near(t, x + place::MEMN),
+        u24_at(t, x + place::MEM),
+        u24_at(t, x + place::MEMN),
         u32_at(t, x + place::COST),
         u32_at(t, x + place::COSTN),
         u32_at(t, x + place::GAS),
@@ -70,12 +59,12 @@ pub(crate) fn quotients_zero(t: &[u8], x: usize) -> bool
     requires { ⌜ x + rowBytes ≤ length (now t) ⌝ }
     ensures { λ r. ⌜ r ≡ zeros (constraints.quotients (from (now (t .entry)) x)) ⌝ }
 {
-    (u24_near(t, x + place::Q1) == 0)
+    (u24_at(t, x + place::Q1) == 0)
         & (u8_at(t, x + place::Q1BYTE) == 0)
-        & (u24_near(t, x + place::Q1ACC) == 0)
+        & (u24_at(t, x + place::Q1ACC) == 0)
         & (u32_at(t, x + place::Q2) == 0)
         & (u8_at(t, x + place::Q2BYTE) == 0)
-        & (u24_near(t, x + place::Q2ACC) == 0)
+        & (u24_at(t, x + place::Q2ACC) == 0)
         & (u8_at(t, x + place::AUX1) == 0)
         & (u8_at(t, x + place::AUX2) == 0)
 }

@@ -9,8 +9,8 @@ ghost use Rattle.meets.specs.Groups as groups;
 use crate::cells::quotients_zero;
 use crate::cells::stays;
 use crate::cells::sums_at;
-use crate::cells::u24_near;
 use cell::read::u8_at;
+use cell::read::u24_at;
 use cell::read::u32_at;
 use cell::read::wide_at;
 use model::IN_LAST;
@@ -43,9 +43,9 @@ fn grows(t: &[u8], x: usize) -> bool
     ensures { λ r. ⌜ r ≡ constraints.grows (from (now (t .entry)) x) ⌝ }
 {
     amounts::grows(
-        u24_near(t, x + place::ENDMAX),
-        u24_near(t, x + place::MEMN),
-        u24_near(t, x + place::Q1),
+        u24_at(t, x + place::ENDMAX),
+        u24_at(t, x + place::MEMN),
+        u24_at(t, x + place::Q1),
         u32_at(t, x + place::Q2),
         u32_at(t, x + place::COST),
         u32_at(t, x + place::COSTN),
@@ -64,7 +64,7 @@ fn choices_hold(t: &[u8], x: usize) -> bool
         comp,
         wide_at(t, x + place::END1),
         wide_at(t, x + place::END2),
-        u24_near(t, x + place::ENDMAX),
+        u24_at(t, x + place::ENDMAX),
     );
     let moves = implies(flag == 0, stays(t, x)) & implies(flag == 1, grows(t, x));
     ((comp <= 1) & (flag <= 1)) & chosen & moves
@@ -89,18 +89,18 @@ fn ends_hold(t: &[u8], x: usize) -> bool
     let end1 = wide_at(t, x + place::END1);
     let end2 = wide_at(t, x + place::END2);
     let summed = same(wide_at(t, x + place::ACC1), end1)
-        & is_number(wide(u24_near(t, x + place::ACC2)), end2);
+        & is_number(wide(u24_at(t, x + place::ACC2)), end2);
     let gap = amounts::is_gap(
         u8_at(t, x + place::COMP),
-        u24_near(t, x + place::DACC),
+        u24_at(t, x + place::DACC),
         end1,
         end2,
     );
     let excess = amounts::is_excess(
         u8_at(t, x + place::FLAG),
-        u24_near(t, x + place::EACC),
-        u24_near(t, x + place::ENDMAX),
-        u24_near(t, x + place::MEM),
+        u24_at(t, x + place::EACC),
+        u24_at(t, x + place::ENDMAX),
+        u24_at(t, x + place::MEM),
     );
     summed & gap & excess
 }
@@ -114,18 +114,18 @@ fn price_holds(t: &[u8], a: usize, b: usize, x: usize) -> bool
     ensures { λ r. ⌜ r ≡ groups.priceHolds (from (now (t .entry)) a) (from (now (t .entry)) b) (from (now (t .entry)) x) ⌝ }
 {
     let flag = u8_at(t, x + place::FLAG);
-    let q1 = u24_near(t, x + place::Q1);
+    let q1 = u24_at(t, x + place::Q1);
     let rounded = amounts::is_rounded(
         q1,
-        u24_near(t, x + place::Q1ACC),
+        u24_at(t, x + place::Q1ACC),
         u8_at(t, b + place::AUX1),
         u8_at(t, x + place::AUX1),
-        u24_near(t, x + place::ENDMAX),
+        u24_at(t, x + place::ENDMAX),
     );
     let split = amounts::is_split(
         q1,
         u32_at(t, x + place::Q2),
-        u24_near(t, x + place::Q2ACC),
+        u24_at(t, x + place::Q2ACC),
         u8_at(t, a + place::AUX2),
         u8_at(t, b + place::AUX2),
         u8_at(t, x + place::AUX2),

@@ -16,17 +16,17 @@ add-u8-at-2 c = search needs
 u8-at-requires-2 : tie.Need-u8-at-requires-2
 u8-at-requires-2 c κs = search needs
 
-add-u24-near : tie.Need-add-u24-near
-add-u24-near c = search needs
+add-u24-at : tie.Need-add-u24-at
+add-u24-at c = search needs
 
-u24-near-requires : tie.Need-u24-near-requires
-u24-near-requires c κs = search needs
+u24-at-requires : tie.Need-u24-at-requires
+u24-at-requires c κs = search needs
 
-add-u24-near-2 : tie.Need-add-u24-near-2
-add-u24-near-2 c = search needs
+add-u24-at-2 : tie.Need-add-u24-at-2
+add-u24-at-2 c = search needs
 
-u24-near-requires-2 : tie.Need-u24-near-requires-2
-u24-near-requires-2 c κs = search needs
+u24-at-requires-2 : tie.Need-u24-at-requires-2
+u24-at-requires-2 c κs = search needs
 
 add-u8-at-3 : tie.Need-add-u8-at-3
 add-u8-at-3 c = search needs
@@ -40,11 +40,11 @@ add-u8-at-4 c = search needs
 u8-at-requires-4 : tie.Need-u8-at-requires-4
 u8-at-requires-4 c κs = search needs
 
-add-u24-near-3 : tie.Need-add-u24-near-3
-add-u24-near-3 c = search needs
+add-u24-at-3 : tie.Need-add-u24-at-3
+add-u24-at-3 c = search needs
 
-u24-near-requires-3 : tie.Need-u24-near-requires-3
-u24-near-requires-3 c κs = search needs
+u24-at-requires-3 : tie.Need-u24-at-requires-3
+u24-at-requires-3 c κs = search needs
 
 quotients-zero-requires : tie.Need-quotients-zero-requires
 quotients-zero-requires c κs = search needs
@@ -60,11 +60,11 @@ returns c =
     let comp = dbyte .before in
     simp (
       c .quotients-zero .ensures,
-      eacc .u24-near3 .ensures,
+      eacc .u24-at3 .ensures,
       ebyte .u8-at4 .ensures,
       flag .u8-at3 .ensures,
-      endmax .u24-near2 .ensures,
-      dacc .u24-near .ensures,
+      endmax .u24-at2 .ensures,
+      dacc .u24-at .ensures,
       dbyte .u8-at2 .ensures,
       comp .u8-at .ensures,
       and-assoc,
@@ -79,15 +79,15 @@ from-comp-zero-spec =
     u8-at-requires
     add-u8-at-2
     u8-at-requires-2
-    add-u24-near
-    u24-near-requires
-    add-u24-near-2
-    u24-near-requires-2
+    add-u24-at
+    u24-at-requires
+    add-u24-at-2
+    u24-at-requires-2
     add-u8-at-3
     u8-at-requires-3
     add-u8-at-4
     u8-at-requires-4
-    add-u24-near-3
-    u24-near-requires-3
+    add-u24-at-3
+    u24-at-requires-3
     quotients-zero-requires
     returns)

@@ -16,11 +16,11 @@ add-u8-at c = search needs
 u8-at-requires : tie.Need-u8-at-requires
 u8-at-requires c κs = search needs
 
-add-u24-near : tie.Need-add-u24-near
-add-u24-near c = search needs
+add-u24-at : tie.Need-add-u24-at
+add-u24-at c = search needs
 
-u24-near-requires : tie.Need-u24-near-requires
-u24-near-requires c κs = search needs
+u24-at-requires : tie.Need-u24-at-requires
+u24-at-requires c κs = search needs
 
 from-comp-zero-requires : tie.Need-from-comp-zero-requires
 from-comp-zero-requires c κs = search needs
@@ -39,7 +39,7 @@ returns c =
     let acc2 = rest .before in
     let byte2 = acc2 .before in
     through (beyond-early _ (λ e. c .if1 .taken (ct .u8-at2 .ensures ∙ e)))
-    (rw (rest .from-comp-zero .ensures, acc2 .u24-near .ensures, byte2 .u8-at .ensures, byte2 .before .stays .ensures))
+    (rw (rest .from-comp-zero .ensures, acc2 .u24-at .ensures, byte2 .u8-at .ensures, byte2 .before .stays .ensures))
 
 add-wide-at : tie.Need-add-wide-at
 add-wide-at c = search needs
@@ -80,7 +80,7 @@ returns-2 c =
       end2 .wide-at2 .ensures,
       end1 .wide-at .ensures,
       rest .from-comp-zero .ensures,
-      acc2 .u24-near .ensures,
+      acc2 .u24-at .ensures,
       byte2 .u8-at .ensures,
       byte2 .before .stays .ensures,
     ))
@@ -92,8 +92,8 @@ meets-beyond-spec =
     stays-requires
     add-u8-at
     u8-at-requires
-    add-u24-near
-    u24-near-requires
+    add-u24-at
+    u24-at-requires
     from-comp-zero-requires
     add-u8-at-2
     u8-at-requires-2

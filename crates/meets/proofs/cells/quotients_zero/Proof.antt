@@ -4,11 +4,11 @@ use borrow.Author.Needs.{needs}
 use Rattle.meets.proofs.cells.quotients_zero.Statement.{statement}
 use Rattle.meets.proofs.cells.quotients_zero.Tie as tie
 
-add-u24-near : tie.Need-add-u24-near
-add-u24-near c = search needs
+add-u24-at : tie.Need-add-u24-at
+add-u24-at c = search needs
 
-u24-near-requires : tie.Need-u24-near-requires
-u24-near-requires c κs = search needs
+u24-at-requires : tie.Need-u24-at-requires
+u24-at-requires c κs = search needs
 
 add-u8-at : tie.Need-add-u8-at
 add-u8-at c = search needs
@@ -16,11 +16,11 @@ add-u8-at c = search needs
 u8-at-requires : tie.Need-u8-at-requires
 u8-at-requires c κs = search needs
 
-add-u24-near-2 : tie.Need-add-u24-near-2
-add-u24-near-2 c = search needs
+add-u24-at-2 : tie.Need-add-u24-at-2
+add-u24-at-2 c = search needs
 
-u24-near-requires-2 : tie.Need-u24-near-requires-2
-u24-near-requires-2 c κs = search needs
+u24-at-requires-2 : tie.Need-u24-at-requires-2
+u24-at-requires-2 c κs = search needs
 
 add-u32-at : tie.Need-add-u32-at
 add-u32-at c = search needs
@@ -34,11 +34,11 @@ add-u8-at-2 c = search needs
 u8-at-requires-2 : tie.Need-u8-at-requires-2
 u8-at-requires-2 c κs = search needs
 
-add-u24-near-3 : tie.Need-add-u24-near-3
-add-u24-near-3 c = search needs
+add-u24-at-3 : tie.Need-add-u24-at-3
+add-u24-at-3 c = search needs
 
-u24-near-requires-3 : tie.Need-u24-near-requires-3
-u24-near-requires-3 c κs = search needs
+u24-at-requires-3 : tie.Need-u24-at-requires-3
+u24-at-requires-3 c κs = search needs
 
 add-u8-at-3 : tie.Need-add-u8-at-3
 add-u8-at-3 c = search needs
@@ -64,12 +64,12 @@ returns c =
     simp (
       c .u8-at4 .ensures,
       aux1 .u8-at3 .ensures,
-      q2acc .u24-near3 .ensures,
+      q2acc .u24-at3 .ensures,
       q2byte .u8-at2 .ensures,
       q2 .u32-at .ensures,
-      q1acc .u24-near2 .ensures,
+      q1acc .u24-at2 .ensures,
       q1byte .u8-at .ensures,
-      q1 .u24-near .ensures,
+      q1 .u24-at .ensures,
       and-assoc,
       and-true,
     )
@@ -78,18 +78,18 @@ pub quotients-zero-spec : {M : Type 1} → statement M
 quotients-zero-spec =
     tie.close
     (tie.spec
-    add-u24-near
-    u24-near-requires
+    add-u24-at
+    u24-at-requires
     add-u8-at
     u8-at-requires
-    add-u24-near-2
-    u24-near-requires-2
+    add-u24-at-2
+    u24-at-requires-2
     add-u32-at
     u32-at-requires
     add-u8-at-2
     u8-at-requires-2
-    add-u24-near-3
-    u24-near-requires-3
+    add-u24-at-3
+    u24-at-requires-3
     add-u8-at-3
     u8-at-requires-3
     add-u8-at-4

@@ -4,17 +4,17 @@ use Rattle.model.specs.Constraints.{stays}
 use Rattle.meets.proofs.cells.stays.Statement.{statement}
 use Rattle.meets.proofs.cells.stays.Tie as tie
 
-add-u24-near : tie.Need-add-u24-near
-add-u24-near c = search needs
+add-u24-at : tie.Need-add-u24-at
+add-u24-at c = search needs
 
-u24-near-requires : tie.Need-u24-near-requires
-u24-near-requires c κs = search needs
+u24-at-requires : tie.Need-u24-at-requires
+u24-at-requires c κs = search needs
 
-add-u24-near-2 : tie.Need-add-u24-near-2
-add-u24-near-2 c = search needs
+add-u24-at-2 : tie.Need-add-u24-at-2
+add-u24-at-2 c = search needs
 
-u24-near-requires-2 : tie.Need-u24-near-requires-2
-u24-near-requires-2 c κs = search needs
+u24-at-requires-2 : tie.Need-u24-at-requires-2
+u24-at-requires-2 c κs = search needs
 
 add-u32-at : tie.Need-add-u32-at
 add-u32-at c = search needs
@@ -50,18 +50,18 @@ returns c =
       gas .u32-at3 .ensures,
       costn .u32-at2 .ensures,
       cost .u32-at .ensures,
-      memn .u24-near2 .ensures,
-      mem .u24-near .ensures,
+      memn .u24-at2 .ensures,
+      mem .u24-at .ensures,
     )
 
 pub stays-spec : {M : Type 1} → statement M
 stays-spec =
     tie.close
     (tie.spec
-    add-u24-near
-    u24-near-requires
-    add-u24-near-2
-    u24-near-requires-2
+    add-u24-at
+    u24-at-requires
+    add-u24-at-2
+    u24-at-requires-2
     add-u32-at
     u32-at-requires
     add-u32-at-2

@@ -28,11 +28,11 @@ add-wide-at-2 c = search needs
 wide-at-requires-2 : tie.Need-wide-at-requires-2
 wide-at-requires-2 c κs = search needs
 
-add-u24-near : tie.Need-add-u24-near
-add-u24-near c = search needs
+add-u24-at : tie.Need-add-u24-at
+add-u24-at c = search needs
 
-u24-near-requires : tie.Need-u24-near-requires
-u24-near-requires c κs = search needs
+u24-at-requires : tie.Need-u24-at-requires
+u24-at-requires c κs = search needs
 
 is-chosen-requires : tie.Need-is-chosen-requires
 is-chosen-requires c κs = search needs
@@ -67,7 +67,7 @@ returns c =
       no-growth .implies .ensures,
       kept .stays .ensures,
       chosen .is-chosen .ensures,
-      endmax .u24-near .ensures,
+      endmax .u24-at .ensures,
       end2 .wide-at2 .ensures,
       end1 .wide-at .ensures,
       flag .u8-at2 .ensures,
@@ -86,8 +86,8 @@ choices-hold-spec =
     wide-at-requires
     add-wide-at-2
     wide-at-requires-2
-    add-u24-near
-    u24-near-requires
+    add-u24-at
+    u24-at-requires
     is-chosen-requires
     stays-requires
     implies-requires

@@ -26,11 +26,11 @@ wide-at-requires-3 c κs = search needs
 same-requires : tie.Need-same-requires
 same-requires c κs = search needs
 
-add-u24-near : tie.Need-add-u24-near
-add-u24-near c = search needs
+add-u24-at : tie.Need-add-u24-at
+add-u24-at c = search needs
 
-u24-near-requires : tie.Need-u24-near-requires
-u24-near-requires c κs = search needs
+u24-at-requires : tie.Need-u24-at-requires
+u24-at-requires c κs = search needs
 
 wide-requires : tie.Need-wide-requires
 wide-requires c κs = search needs
@@ -44,11 +44,11 @@ add-u8-at c = search needs
 u8-at-requires : tie.Need-u8-at-requires
 u8-at-requires c κs = search needs
 
-add-u24-near-2 : tie.Need-add-u24-near-2
-add-u24-near-2 c = search needs
+add-u24-at-2 : tie.Need-add-u24-at-2
+add-u24-at-2 c = search needs
 
-u24-near-requires-2 : tie.Need-u24-near-requires-2
-u24-near-requires-2 c κs = search needs
+u24-at-requires-2 : tie.Need-u24-at-requires-2
+u24-at-requires-2 c κs = search needs
 
 is-gap-requires : tie.Need-is-gap-requires
 is-gap-requires c κs = search needs
@@ -59,23 +59,23 @@ add-u8-at-2 c = search needs
 u8-at-requires-2 : tie.Need-u8-at-requires-2
 u8-at-requires-2 c κs = search needs
 
-add-u24-near-3 : tie.Need-add-u24-near-3
-add-u24-near-3 c = search needs
+add-u24-at-3 : tie.Need-add-u24-at-3
+add-u24-at-3 c = search needs
 
-u24-near-requires-3 : tie.Need-u24-near-requires-3
-u24-near-requires-3 c κs = search needs
+u24-at-requires-3 : tie.Need-u24-at-requires-3
+u24-at-requires-3 c κs = search needs
 
-add-u24-near-4 : tie.Need-add-u24-near-4
-add-u24-near-4 c = search needs
+add-u24-at-4 : tie.Need-add-u24-at-4
+add-u24-at-4 c = search needs
 
-u24-near-requires-4 : tie.Need-u24-near-requires-4
-u24-near-requires-4 c κs = search needs
+u24-at-requires-4 : tie.Need-u24-at-requires-4
+u24-at-requires-4 c κs = search needs
 
-add-u24-near-5 : tie.Need-add-u24-near-5
-add-u24-near-5 c = search needs
+add-u24-at-5 : tie.Need-add-u24-at-5
+add-u24-at-5 c = search needs
 
-u24-near-requires-5 : tie.Need-u24-near-requires-5
-u24-near-requires-5 c κs = search needs
+u24-at-requires-5 : tie.Need-u24-at-requires-5
+u24-at-requires-5 c κs = search needs
 
 is-excess-requires : tie.Need-is-excess-requires
 is-excess-requires c κs = search needs
@@ -99,16 +99,16 @@ returns c =
     let end1 = end2 .before in
     rw (
       c .is-excess .ensures,
-      mem .u24-near5 .ensures,
-      endmax .u24-near4 .ensures,
-      eacc .u24-near3 .ensures,
+      mem .u24-at5 .ensures,
+      endmax .u24-at4 .ensures,
+      eacc .u24-at3 .ensures,
       flag .u8-at2 .ensures,
       gap .is-gap .ensures,
-      dacc .u24-near2 .ensures,
+      dacc .u24-at2 .ensures,
       comp .u8-at .ensures,
       second .is-number .ensures,
       acc2-wide .wide .ensures .0,
-      acc2 .u24-near .ensures,
+      acc2 .u24-at .ensures,
       first .same .ensures,
       acc1 .wide-at3 .ensures,
       end2 .wide-at2 .ensures,
@@ -127,22 +127,22 @@ ends-hold-spec =
     add-wide-at-3
     wide-at-requires-3
     same-requires
-    add-u24-near
-    u24-near-requires
+    add-u24-at
+    u24-at-requires
     wide-requires
     is-number-requires
     add-u8-at
     u8-at-requires
-    add-u24-near-2
-    u24-near-requires-2
+    add-u24-at-2
+    u24-at-requires-2
     is-gap-requires
     add-u8-at-2
     u8-at-requires-2
-    add-u24-near-3
-    u24-near-requires-3
-    add-u24-near-4
-    u24-near-requires-4
-    add-u24-near-5
-    u24-near-requires-5
+    add-u24-at-3
+    u24-at-requires-3
+    add-u24-at-4
+    u24-at-requires-4
+    add-u24-at-5
+    u24-at-requires-5
     is-excess-requires
     returns)

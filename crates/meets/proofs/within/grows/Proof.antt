@@ -4,23 +4,23 @@ use Rattle.model.specs.Constraints.{grows}
 use Rattle.meets.proofs.within.grows.Statement.{statement}
 use Rattle.meets.proofs.within.grows.Tie as tie
 
-add-u24-near : tie.Need-add-u24-near
-add-u24-near c = search needs
+add-u24-at : tie.Need-add-u24-at
+add-u24-at c = search needs
 
-u24-near-requires : tie.Need-u24-near-requires
-u24-near-requires c κs = search needs
+u24-at-requires : tie.Need-u24-at-requires
+u24-at-requires c κs = search needs
 
-add-u24-near-2 : tie.Need-add-u24-near-2
-add-u24-near-2 c = search needs
+add-u24-at-2 : tie.Need-add-u24-at-2
+add-u24-at-2 c = search needs
 
-u24-near-requires-2 : tie.Need-u24-near-requires-2
-u24-near-requires-2 c κs = search needs
+u24-at-requires-2 : tie.Need-u24-at-requires-2
+u24-at-requires-2 c κs = search needs
 
-add-u24-near-3 : tie.Need-add-u24-near-3
-add-u24-near-3 c = search needs
+add-u24-at-3 : tie.Need-add-u24-at-3
+add-u24-at-3 c = search needs
 
-u24-near-requires-3 : tie.Need-u24-near-requires-3
-u24-near-requires-3 c κs = search needs
+u24-at-requires-3 : tie.Need-u24-at-requires-3
+u24-at-requires-3 c κs = search needs
 
 add-u32-at : tie.Need-add-u32-at
 add-u32-at c = search needs
@@ -65,21 +65,21 @@ returns c =
       costn .u32-at3 .ensures,
       cost .u32-at2 .ensures,
       q2 .u32-at .ensures,
-      q1 .u24-near3 .ensures,
-      memn .u24-near2 .ensures,
-      endmax .u24-near .ensures,
+      q1 .u24-at3 .ensures,
+      memn .u24-at2 .ensures,
+      endmax .u24-at .ensures,
     )
 
 pub grows-spec : {M : Type 1} → statement M
 grows-spec =
     tie.close
     (tie.spec
-    add-u24-near
-    u24-near-requires
-    add-u24-near-2
-    u24-near-requires-2
-    add-u24-near-3
-    u24-near-requires-3
+    add-u24-at
+    u24-at-requires
+    add-u24-at-2
+    u24-at-requires-2
+    add-u24-at-3
+    u24-at-requires-3
     add-u32-at
     u32-at-requires
     add-u32-at-2

@@ -11,17 +11,17 @@ add-u8-at c = search needs
 u8-at-requires : tie.Need-u8-at-requires
 u8-at-requires c κs = search needs
 
-add-u24-near : tie.Need-add-u24-near
-add-u24-near c = search needs
+add-u24-at : tie.Need-add-u24-at
+add-u24-at c = search needs
 
-u24-near-requires : tie.Need-u24-near-requires
-u24-near-requires c κs = search needs
+u24-at-requires : tie.Need-u24-at-requires
+u24-at-requires c κs = search needs
 
-add-u24-near-2 : tie.Need-add-u24-near-2
-add-u24-near-2 c = search needs
+add-u24-at-2 : tie.Need-add-u24-at-2
+add-u24-at-2 c = search needs
 
-u24-near-requires-2 : tie.Need-u24-near-requires-2
-u24-near-requires-2 c κs = search needs
+u24-at-requires-2 : tie.Need-u24-at-requires-2
+u24-at-requires-2 c κs = search needs
 
 add-u8-at-2 : tie.Need-add-u8-at-2
 add-u8-at-2 c = search needs
@@ -35,11 +35,11 @@ add-u8-at-3 c = search needs
 u8-at-requires-3 : tie.Need-u8-at-requires-3
 u8-at-requires-3 c κs = search needs
 
-add-u24-near-3 : tie.Need-add-u24-near-3
-add-u24-near-3 c = search needs
+add-u24-at-3 : tie.Need-add-u24-at-3
+add-u24-at-3 c = search needs
 
-u24-near-requires-3 : tie.Need-u24-near-requires-3
-u24-near-requires-3 c κs = search needs
+u24-at-requires-3 : tie.Need-u24-at-requires-3
+u24-at-requires-3 c κs = search needs
 
 is-rounded-requires : tie.Need-is-rounded-requires
 is-rounded-requires c κs = search needs
@@ -50,11 +50,11 @@ add-u32-at c = search needs
 u32-at-requires : tie.Need-u32-at-requires
 u32-at-requires c κs = search needs
 
-add-u24-near-4 : tie.Need-add-u24-near-4
-add-u24-near-4 c = search needs
+add-u24-at-4 : tie.Need-add-u24-at-4
+add-u24-at-4 c = search needs
 
-u24-near-requires-4 : tie.Need-u24-near-requires-4
-u24-near-requires-4 c κs = search needs
+u24-at-requires-4 : tie.Need-u24-at-requires-4
+u24-at-requires-4 c κs = search needs
 
 add-u8-at-4 : tie.Need-add-u8-at-4
 add-u8-at-4 c = search needs
@@ -107,14 +107,14 @@ returns c =
       aux2 .u8-at6 .ensures,
       aux2-before .u8-at5 .ensures,
       aux2-first .u8-at4 .ensures,
-      q2acc .u24-near4 .ensures,
+      q2acc .u24-at4 .ensures,
       q2 .u32-at .ensures,
       rounded .is-rounded .ensures,
-      endmax .u24-near3 .ensures,
+      endmax .u24-at3 .ensures,
       aux1 .u8-at3 .ensures,
       aux1-before .u8-at2 .ensures,
-      q1acc .u24-near2 .ensures,
-      q1 .u24-near .ensures,
+      q1acc .u24-at2 .ensures,
+      q1 .u24-at .ensures,
       flag .u8-at .ensures,
       eq-eqb _ _ (flag .before .before .pre .1 .1 .1),
     )
@@ -125,21 +125,21 @@ price-holds-spec =
     (tie.spec
     add-u8-at
     u8-at-requires
-    add-u24-near
-    u24-near-requires
-    add-u24-near-2
-    u24-near-requires-2
+    add-u24-at
+    u24-at-requires
+    add-u24-at-2
+    u24-at-requires-2
     add-u8-at-2
     u8-at-requires-2
     add-u8-at-3
     u8-at-requires-3
-    add-u24-near-3
-    u24-near-requires-3
+    add-u24-at-3
+    u24-at-requires-3
     is-rounded-requires
     add-u32-at
     u32-at-requires
-    add-u24-near-4
-    u24-near-requires-4
+    add-u24-at-4
+    u24-at-requires-4
     add-u8-at-4
     u8-at-requires-4
     add-u8-at-5
