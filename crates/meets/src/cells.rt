@@ -8,9 +8,11 @@ ghost use Rattle.model.specs.Columns.{rowBytes};
 ghost use Rattle.model.specs.Constraints as constraints;
 ghost use Rattle.model.specs.Tests.{zeros, sumsUp};
 ghost use Rattle.row.specs.Plain.{from};
+ghost use Rattle.meets.specs.Groups.{zeroBytes};
 use cell::read::u8_at;
 use cell::read::u24_at;
 use cell::read::u32_at;
+use model::ROW_BYTES;
 use row::place;
 use words::amounts;
 
@@ -67,4 +69,18 @@ pub(crate) fn quotients_zero(t: &[u8], x: usize) -> bool
         & (u24_at(t, x + place::Q2ACC) == 0)
         & (u8_at(t, x + place::AUX1) == 0)
         & (u8_at(t, x + place::AUX2) == 0)
+}
+
+// Every byte of the row at x is 0.
+pub(crate) fn row_zero(t: &[u8], x: usize) -> bool
+    requires { ⌜ x + rowBytes ≤ length (now t) ⌝ }
+    ensures { λ r. ⌜ r ≡ zeroBytes (now (t .entry)) x rowBytes ⌝ }
+{
+    let mut zero = true;
+    let mut i: usize = 0;
+    while i < ROW_BYTES {
+        zero = zero & (t[x + i] == 0);
+        i += 1;
+    }
+    zero
 }

@@ -3,7 +3,7 @@ use mathlib.Core.Path.{sym, _∙_}
 use borrow.Author.Tests.{ltb-true}
 use borrow.Author.Needs.{needs}
 use Rattle.number.proofs.TestLaws.{both}
-use Rattle.meets.proofs.GroupLaws.{all-met}
+use Rattle.meets.proofs.EmptyLaws.{row-met}
 use Rattle.checker.proofs.RowLaws.{met-by-bytes}
 use Rattle.checker.proofs.judge.broken_constraint.Statement.{statement}
 use Rattle.checker.proofs.judge.broken_constraint.Tie as tie
@@ -29,7 +29,7 @@ returns c =
     let start = inner .before .before in
     let a = start .args in
     let (some, more) = both _ _ (inner .if1 .taken) in
-    met-by-bytes _ (a .n) (a .i) _ (start .pre .1 .1) (ltb-true _ _ some) (ltb-true _ _ more) (all-met _ _ _ _ (sym (c .before .meets .ensures) ∙ c .if2 .taken))
+    met-by-bytes _ (a .n) (a .i) _ (start .pre .1 .1) (ltb-true _ _ some) (ltb-true _ _ more) (row-met _ _ _ _ _ (sym (c .before .meets .ensures) ∙ c .if2 .taken))
 
 named-constraint-requires : tie.Need-named-constraint-requires
 named-constraint-requires c κs = search needs
