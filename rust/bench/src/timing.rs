@@ -16,7 +16,7 @@ pub struct Budget {
 
 impl Budget {
     /// Enough to see that all of it runs, and about how fast.
-    pub const SHORT: Budget = Budget { passes: 1, time: Duration::from_millis(200), rounds: 2 };
+    pub const SHORT: Budget = Budget { passes: 1, time: Duration::from_millis(50), rounds: 2 };
     /// Enough for numbers that are kept.
     pub const FULL: Budget = Budget { passes: 12, time: Duration::from_millis(250), rounds: 2 };
 }
