@@ -10,29 +10,11 @@ use Rattle.meets.proofs.GroupLaws.{asked-no-frame, asked-not-carried, a
 use Rattle.meets.proofs.meets.Statement.{statement}
 use Rattle.meets.proofs.meets.Tie as tie
 
-add-u32-at : tie.Need-add-u32-at
-add-u32-at c = search needs
-
-u32-at-requires : tie.Need-u32-at-requires
-u32-at-requires c κs = search needs
-
-add-u32-at-2 : tie.Need-add-u32-at-2
-add-u32-at-2 c = search needs
-
-u32-at-requires-2 : tie.Need-u32-at-requires-2
-u32-at-requires-2 c κs = search needs
-
-row-zero-requires : tie.Need-row-zero-requires
-row-zero-requires c κs = search needs
-
 returns : tie.Need-returns
 returns c =
     let before = c .before in
     let empty = before .before in
     through (asked-empty _ _ _ _ _ (sym (empty .before .u32-at .ensures) ∙ empty .if1 .taken)) (rw (c .row-zero .ensures, before .u32-at2 .ensures))
-
-follows-requires : tie.Need-follows-requires
-follows-requires c κs = search needs
 
 -- the row is one of an instruction
 used : (c : tie.Else1)
@@ -45,27 +27,12 @@ returns-2 c =
     let follows = c .before in
     through (used (follows .before)) (asked-no-frame _ _ _ _ (rw (← follows .follows .ensures) (not-true _ (c .if2 .taken))))
 
-carries-requires : tie.Need-carries-requires
-carries-requires c κs = search needs
-
 returns-3 : tie.Need-returns-3
 returns-3 c =
     let carries = c .before in
     let frame = carries .before in
     through (used (frame .before .before))
     (asked-not-carried _ _ _ _ (rw (← frame .before .follows .ensures) (not-false _ (frame .if2 .left))) (rw (← carries .carries .ensures) (not-true _ (c .if3 .taken))))
-
-add-u8-at : tie.Need-add-u8-at
-add-u8-at c = search needs
-
-u8-at-requires : tie.Need-u8-at-requires
-u8-at-requires c κs = search needs
-
-meets-within-requires : tie.Need-meets-within-requires
-meets-within-requires c κs = search needs
-
-meets-beyond-requires : tie.Need-meets-beyond-requires
-meets-beyond-requires c κs = search needs
 
 returns-4 : tie.Need-returns-4
 returns-4 c =
@@ -93,19 +60,6 @@ pub meets-spec : {M : Type 1} → statement M
 meets-spec =
     tie.close
     (tie.spec
-    add-u32-at
-    u32-at-requires
-    add-u32-at-2
-    u32-at-requires-2
-    row-zero-requires
-    returns
-    follows-requires
-    returns-2
-    carries-requires
-    returns-3
-    add-u8-at
-    u8-at-requires
-    meets-within-requires
-    meets-beyond-requires
-    returns-4
-    returns-5)
+    (λ c. search needs) (λ c κs. search needs) (λ c. search needs) (λ c κs. search needs) (λ c κs. search needs) returns
+    (λ c κs. search needs) returns-2 (λ c κs. search needs) returns-3 (λ c. search needs) (λ c κs. search needs)
+    (λ c κs. search needs) (λ c κs. search needs) returns-4 returns-5)

@@ -4,51 +4,6 @@ use borrow.Author.Needs.{needs}
 use Rattle.meets.proofs.beyond.from_comp_zero.Statement.{statement}
 use Rattle.meets.proofs.beyond.from_comp_zero.Tie as tie
 
-add-u8-at : tie.Need-add-u8-at
-add-u8-at c = search needs
-
-u8-at-requires : tie.Need-u8-at-requires
-u8-at-requires c κs = search needs
-
-add-u8-at-2 : tie.Need-add-u8-at-2
-add-u8-at-2 c = search needs
-
-u8-at-requires-2 : tie.Need-u8-at-requires-2
-u8-at-requires-2 c κs = search needs
-
-add-u24-at : tie.Need-add-u24-at
-add-u24-at c = search needs
-
-u24-at-requires : tie.Need-u24-at-requires
-u24-at-requires c κs = search needs
-
-add-u24-at-2 : tie.Need-add-u24-at-2
-add-u24-at-2 c = search needs
-
-u24-at-requires-2 : tie.Need-u24-at-requires-2
-u24-at-requires-2 c κs = search needs
-
-add-u8-at-3 : tie.Need-add-u8-at-3
-add-u8-at-3 c = search needs
-
-u8-at-requires-3 : tie.Need-u8-at-requires-3
-u8-at-requires-3 c κs = search needs
-
-add-u8-at-4 : tie.Need-add-u8-at-4
-add-u8-at-4 c = search needs
-
-u8-at-requires-4 : tie.Need-u8-at-requires-4
-u8-at-requires-4 c κs = search needs
-
-add-u24-at-3 : tie.Need-add-u24-at-3
-add-u24-at-3 c = search needs
-
-u24-at-requires-3 : tie.Need-u24-at-requires-3
-u24-at-requires-3 c κs = search needs
-
-quotients-zero-requires : tie.Need-quotients-zero-requires
-quotients-zero-requires c κs = search needs
-
 returns : tie.Need-returns
 returns c =
     let eacc = c .before in
@@ -75,19 +30,6 @@ pub from-comp-zero-spec : {M : Type 1} → statement M
 from-comp-zero-spec =
     tie.close
     (tie.spec
-    add-u8-at
-    u8-at-requires
-    add-u8-at-2
-    u8-at-requires-2
-    add-u24-at
-    u24-at-requires
-    add-u24-at-2
-    u24-at-requires-2
-    add-u8-at-3
-    u8-at-requires-3
-    add-u8-at-4
-    u8-at-requires-4
-    add-u24-at-3
-    u24-at-requires-3
-    quotients-zero-requires
-    returns)
+    (λ c. search needs) (λ c κs. search needs) (λ c. search needs) (λ c κs. search needs) (λ c. search needs)
+    (λ c κs. search needs) (λ c. search needs) (λ c κs. search needs) (λ c. search needs) (λ c κs. search needs)
+    (λ c. search needs) (λ c κs. search needs) (λ c. search needs) (λ c κs. search needs) (λ c κs. search needs) returns)

@@ -4,39 +4,6 @@ use Rattle.model.specs.Constraints.{stays}
 use Rattle.meets.proofs.cells.stays.Statement.{statement}
 use Rattle.meets.proofs.cells.stays.Tie as tie
 
-add-u24-at : tie.Need-add-u24-at
-add-u24-at c = search needs
-
-u24-at-requires : tie.Need-u24-at-requires
-u24-at-requires c κs = search needs
-
-add-u24-at-2 : tie.Need-add-u24-at-2
-add-u24-at-2 c = search needs
-
-u24-at-requires-2 : tie.Need-u24-at-requires-2
-u24-at-requires-2 c κs = search needs
-
-add-u32-at : tie.Need-add-u32-at
-add-u32-at c = search needs
-
-u32-at-requires : tie.Need-u32-at-requires
-u32-at-requires c κs = search needs
-
-add-u32-at-2 : tie.Need-add-u32-at-2
-add-u32-at-2 c = search needs
-
-u32-at-requires-2 : tie.Need-u32-at-requires-2
-u32-at-requires-2 c κs = search needs
-
-add-u32-at-3 : tie.Need-add-u32-at-3
-add-u32-at-3 c = search needs
-
-u32-at-requires-3 : tie.Need-u32-at-requires-3
-u32-at-requires-3 c κs = search needs
-
-stays-requires : tie.Need-stays-requires
-stays-requires c κs = search needs
-
 returns : tie.Need-returns
 unfolding stays
 returns c =
@@ -58,15 +25,6 @@ pub stays-spec : {M : Type 1} → statement M
 stays-spec =
     tie.close
     (tie.spec
-    add-u24-at
-    u24-at-requires
-    add-u24-at-2
-    u24-at-requires-2
-    add-u32-at
-    u32-at-requires
-    add-u32-at-2
-    u32-at-requires-2
-    add-u32-at-3
-    u32-at-requires-3
-    stays-requires
-    returns)
+    (λ c. search needs) (λ c κs. search needs) (λ c. search needs) (λ c κs. search needs) (λ c. search needs)
+    (λ c κs. search needs) (λ c. search needs) (λ c κs. search needs) (λ c. search needs) (λ c κs. search needs)
+    (λ c κs. search needs) returns)

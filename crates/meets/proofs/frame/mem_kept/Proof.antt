@@ -5,63 +5,6 @@ use Rattle.meets.proofs.GroupLaws.{mem-kept-is}
 use Rattle.meets.proofs.frame.mem_kept.Statement.{statement}
 use Rattle.meets.proofs.frame.mem_kept.Tie as tie
 
-add-same-three : tie.Need-add-same-three
-add-same-three c = search needs
-
-add-same-three-2 : tie.Need-add-same-three-2
-add-same-three-2 c = search needs
-
-same-three-requires : tie.Need-same-three-requires
-same-three-requires c κs = search needs
-
-add-same-three-3 : tie.Need-add-same-three-3
-add-same-three-3 c = search needs
-
-add-same-three-4 : tie.Need-add-same-three-4
-add-same-three-4 c = search needs
-
-same-three-requires-2 : tie.Need-same-three-requires-2
-same-three-requires-2 c κs = search needs
-
-add-u32-at : tie.Need-add-u32-at
-add-u32-at c = search needs
-
-u32-at-requires : tie.Need-u32-at-requires
-u32-at-requires c κs = search needs
-
-add-u32-at-2 : tie.Need-add-u32-at-2
-add-u32-at-2 c = search needs
-
-u32-at-requires-2 : tie.Need-u32-at-requires-2
-u32-at-requires-2 c κs = search needs
-
-add-u32-at-3 : tie.Need-add-u32-at-3
-add-u32-at-3 c = search needs
-
-u32-at-requires-3 : tie.Need-u32-at-requires-3
-u32-at-requires-3 c κs = search needs
-
-add-u32-at-4 : tie.Need-add-u32-at-4
-add-u32-at-4 c = search needs
-
-u32-at-requires-4 : tie.Need-u32-at-requires-4
-u32-at-requires-4 c κs = search needs
-
-add-u32-at-5 : tie.Need-add-u32-at-5
-add-u32-at-5 c = search needs
-
-u32-at-requires-5 : tie.Need-u32-at-requires-5
-u32-at-requires-5 c κs = search needs
-
-add-u32-at-6 : tie.Need-add-u32-at-6
-add-u32-at-6 c = search needs
-
-u32-at-requires-6 : tie.Need-u32-at-requires-6
-u32-at-requires-6 c κs = search needs
-
-comp-kept-requires : tie.Need-comp-kept-requires
-comp-kept-requires c κs = search needs
-
 returns : tie.Need-returns
 returns c =
     let gas-before = c .before in
@@ -79,23 +22,7 @@ pub mem-kept-spec : {M : Type 1} → statement M
 mem-kept-spec =
     tie.close
     (tie.spec
-    add-same-three
-    add-same-three-2
-    same-three-requires
-    add-same-three-3
-    add-same-three-4
-    same-three-requires-2
-    add-u32-at
-    u32-at-requires
-    add-u32-at-2
-    u32-at-requires-2
-    add-u32-at-3
-    u32-at-requires-3
-    add-u32-at-4
-    u32-at-requires-4
-    add-u32-at-5
-    u32-at-requires-5
-    add-u32-at-6
-    u32-at-requires-6
-    comp-kept-requires
-    returns)
+    (λ c. search needs) (λ c. search needs) (λ c κs. search needs) (λ c. search needs) (λ c. search needs)
+    (λ c κs. search needs) (λ c. search needs) (λ c κs. search needs) (λ c. search needs) (λ c κs. search needs)
+    (λ c. search needs) (λ c κs. search needs) (λ c. search needs) (λ c κs. search needs) (λ c. search needs)
+    (λ c κs. search needs) (λ c. search needs) (λ c κs. search needs) (λ c κs. search needs) returns)

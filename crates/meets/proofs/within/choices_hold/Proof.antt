@@ -4,51 +4,6 @@ use Rattle.model.specs.Constraints.{k15, k16, k17}
 use Rattle.meets.proofs.within.choices_hold.Statement.{statement}
 use Rattle.meets.proofs.within.choices_hold.Tie as tie
 
-add-u8-at : tie.Need-add-u8-at
-add-u8-at c = search needs
-
-u8-at-requires : tie.Need-u8-at-requires
-u8-at-requires c κs = search needs
-
-add-u8-at-2 : tie.Need-add-u8-at-2
-add-u8-at-2 c = search needs
-
-u8-at-requires-2 : tie.Need-u8-at-requires-2
-u8-at-requires-2 c κs = search needs
-
-add-wide-at : tie.Need-add-wide-at
-add-wide-at c = search needs
-
-wide-at-requires : tie.Need-wide-at-requires
-wide-at-requires c κs = search needs
-
-add-wide-at-2 : tie.Need-add-wide-at-2
-add-wide-at-2 c = search needs
-
-wide-at-requires-2 : tie.Need-wide-at-requires-2
-wide-at-requires-2 c κs = search needs
-
-add-u24-at : tie.Need-add-u24-at
-add-u24-at c = search needs
-
-u24-at-requires : tie.Need-u24-at-requires
-u24-at-requires c κs = search needs
-
-is-chosen-requires : tie.Need-is-chosen-requires
-is-chosen-requires c κs = search needs
-
-stays-requires : tie.Need-stays-requires
-stays-requires c κs = search needs
-
-implies-requires : tie.Need-implies-requires
-implies-requires c κs = search needs
-
-grows-requires : tie.Need-grows-requires
-grows-requires c κs = search needs
-
-implies-requires-2 : tie.Need-implies-requires-2
-implies-requires-2 c κs = search needs
-
 returns : tie.Need-returns
 unfolding k15 k16 k17
 returns c =
@@ -78,19 +33,7 @@ pub choices-hold-spec : {M : Type 1} → statement M
 choices-hold-spec =
     tie.close
     (tie.spec
-    add-u8-at
-    u8-at-requires
-    add-u8-at-2
-    u8-at-requires-2
-    add-wide-at
-    wide-at-requires
-    add-wide-at-2
-    wide-at-requires-2
-    add-u24-at
-    u24-at-requires
-    is-chosen-requires
-    stays-requires
-    implies-requires
-    grows-requires
-    implies-requires-2
+    (λ c. search needs) (λ c κs. search needs) (λ c. search needs) (λ c κs. search needs) (λ c. search needs)
+    (λ c κs. search needs) (λ c. search needs) (λ c κs. search needs) (λ c. search needs) (λ c κs. search needs)
+    (λ c κs. search needs) (λ c κs. search needs) (λ c κs. search needs) (λ c κs. search needs) (λ c κs. search needs)
     returns)

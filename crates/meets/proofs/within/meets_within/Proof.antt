@@ -11,12 +11,6 @@ use Rattle.meets.proofs.GroupLaws.{within-none, within-first, within-in
 use Rattle.meets.proofs.within.meets_within.Statement.{statement}
 use Rattle.meets.proofs.within.meets_within.Tie as tie
 
-sums-hold-requires : tie.Need-sums-hold-requires
-sums-hold-requires c κs = search needs
-
-rest-holds-requires : tie.Need-rest-holds-requires
-rest-holds-requires c κs = search needs
-
 -- 11 to 14 and 23 are met
 met : (c : tie.Else1)
     → let a = c .before .before .before .before .args in
@@ -27,15 +21,6 @@ returns : tie.Need-returns
 returns c =
     let rest = c .before in
     within-none _ _ _ (rw (← rest .rest-holds .ensures, ← rest .before .sums-hold .ensures) (not-true _ (c .if1 .taken)))
-
-add-u8-at : tie.Need-add-u8-at
-add-u8-at c = search needs
-
-u8-at-requires : tie.Need-u8-at-requires
-u8-at-requires c κs = search needs
-
-choices-hold-requires : tie.Need-choices-hold-requires
-choices-hold-requires c κs = search needs
 
 returns-2 : tie.Need-returns-2
 returns-2 c =
@@ -49,12 +34,6 @@ returns-3 c =
     let ct = later .before in
     within-inside _ _ _ (met (ct .before)) (λ e. later .if2 .left (ct .u8-at .ensures ∙ e)) (λ e. c .if3 .taken (ct .u8-at .ensures ∙ e))
 
-ends-hold-requires : tie.Need-ends-hold-requires
-ends-hold-requires c κs = search needs
-
-price-holds-requires : tie.Need-price-holds-requires
-price-holds-requires c κs = search needs
-
 returns-4 : tie.Need-returns-4
 returns-4 c =
     let ends = c .before in
@@ -66,14 +45,5 @@ pub meets-within-spec : {M : Type 1} → statement M
 meets-within-spec =
     tie.close
     (tie.spec
-    sums-hold-requires
-    rest-holds-requires
-    returns
-    add-u8-at
-    u8-at-requires
-    choices-hold-requires
-    returns-2
-    returns-3
-    ends-hold-requires
-    price-holds-requires
-    returns-4)
+    (λ c κs. search needs) (λ c κs. search needs) returns (λ c. search needs) (λ c κs. search needs)
+    (λ c κs. search needs) returns-2 returns-3 (λ c κs. search needs) (λ c κs. search needs) returns-4)

@@ -4,33 +4,6 @@ use Rattle.model.specs.Constraints.{k23}
 use Rattle.meets.proofs.within.rest_holds.Statement.{statement}
 use Rattle.meets.proofs.within.rest_holds.Tie as tie
 
-add-u8-at : tie.Need-add-u8-at
-add-u8-at c = search needs
-
-u8-at-requires : tie.Need-u8-at-requires
-u8-at-requires c κs = search needs
-
-add-u8-at-2 : tie.Need-add-u8-at-2
-add-u8-at-2 c = search needs
-
-u8-at-requires-2 : tie.Need-u8-at-requires-2
-u8-at-requires-2 c κs = search needs
-
-quotients-zero-requires : tie.Need-quotients-zero-requires
-quotients-zero-requires c κs = search needs
-
-implies-requires : tie.Need-implies-requires
-implies-requires c κs = search needs
-
-add-u8-at-3 : tie.Need-add-u8-at-3
-add-u8-at-3 c = search needs
-
-u8-at-requires-3 : tie.Need-u8-at-requires-3
-u8-at-requires-3 c κs = search needs
-
-implies-requires-2 : tie.Need-implies-requires-2
-implies-requires-2 c κs = search needs
-
 returns : tie.Need-returns
 unfolding k23
 returns c =
@@ -52,13 +25,5 @@ pub rest-holds-spec : {M : Type 1} → statement M
 rest-holds-spec =
     tie.close
     (tie.spec
-    add-u8-at
-    u8-at-requires
-    add-u8-at-2
-    u8-at-requires-2
-    quotients-zero-requires
-    implies-requires
-    add-u8-at-3
-    u8-at-requires-3
-    implies-requires-2
-    returns)
+    (λ c. search needs) (λ c κs. search needs) (λ c. search needs) (λ c κs. search needs) (λ c κs. search needs)
+    (λ c κs. search needs) (λ c. search needs) (λ c κs. search needs) (λ c κs. search needs) returns)
