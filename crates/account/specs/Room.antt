@@ -8,7 +8,7 @@ use Rattle.model.specs.Cycles.{starts, cycles, counts}
 use Rattle.model.specs.Tests.{pick}
 use Rattle.text.specs.Decimal.{maxDigits}
 use Rattle.text.specs.Line.{Put}
-use Rattle.checker.specs.Rows.{plainCounts}
+use Rattle.count.specs.Counts.{plainCounts}
 use Rattle.account.specs.Report.{lineText, linesText, roomRows}
 use Rattle.account.specs.declared.Lines.{Lines}
 

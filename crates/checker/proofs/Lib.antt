@@ -1,4 +1,3 @@
-pub mod CountLaws
 pub mod RowLaws
 pub mod StartLaws
 pub mod OneAnswer

@@ -1,6 +1,6 @@
 -- What the checker knows at a row gives the row's first broken constraint, and with it what it knows at the next row.
 use Prim.Native.Nat.{ℕ, zero, suc, _+_, _-_, _*_, _<_}
-use mathlib.Core.Bool.{Bool, true, false, not, _&&_}
+use mathlib.Core.Bool.{Bool, true, false}
 use mathlib.Core.List.{List}
 use mathlib.Core.Logic.{_≢_}
 use mathlib.Core.Path.{_≡_, refl, sym, _∙_, ap, subst}
@@ -12,9 +12,8 @@ use lib.Dec.{eqb, eqb·suc-zero}
 use Rattle.model.specs.Columns.{Cells, emptyRow, rowBytes, rowAt, table}
 use Rattle.model.specs.Constraints.{inUse, k3, k4, k9, k15, k16, k17, k25, constraintsBy, constraint, firstFailed, firstBroken}
 use Rattle.model.specs.State.{contextOf}
-use Rattle.model.specs.Cycles.{starts, counts}
-use Rattle.model.specs.Tests.{bit}
-use Rattle.model.specs.Verdict.{rowBefore, before, brokenAt, judged, meet, verdictBy, maxRows}
+use Rattle.model.specs.Cycles.{counts}
+use Rattle.model.specs.Verdict.{rowBefore, before, brokenAt, judged, meet, verdictBy}
 use Rattle.model.proofs.JudgeLaws.{judged-stops}
 use Rattle.model.proofs.RowFacts.{of-within}
 use Rattle.model.proofs.TestFacts.{_&_}
@@ -26,11 +25,11 @@ use Rattle.recent.proofs.NoteLaws.{recalled-before}
 use Rattle.row.specs.Plain.{from}
 use Rattle.row.proofs.PlaceLaws.{from-row}
 use Rattle.state.proofs.LookLaws.{look-before}
+use Rattle.count.specs.Counts.{plainCounts}
+use Rattle.count.specs.declared.Counts.{Counts}
 use Rattle.checker.specs.Answer.{told}
-use Rattle.checker.specs.Rows.{asked, firstAt, counted, plainCounts}
-use Rattle.checker.specs.declared.Counts.{Counts}
+use Rattle.checker.specs.Rows.{asked, firstAt}
 use Rattle.checker.specs.declared.Verdict.the-variants.{Accepted, Broken}
-use Rattle.checker.proofs.CountLaws.{counts-next, counts-below}
 use Rattle.checker.proofs.StartLaws.{between, asked-where-starts, used-stamp}
 
 module _ (r : ℕ → Cells) (n : ℕ) where
@@ -114,28 +113,3 @@ met-by-bytes l n (suc (suc j)) nine m some last h =
     let more : eqb (suc (suc j) + 1) n ≡ false = ne-eqb (suc (suc j) + 1) n (λ e. absurd (omega (arith, last, e))) in
     first-of-rows (rowAt l) n (suc (suc j)) nine _ _ _ _ 0 (ap (from l) two ∙ from-row l j) before (from-row l (suc (suc j))) refl
     (rw (eqb·suc-zero (suc j), more) (sym (h (subst Chosen (sym before) (chosen-before (rowAt l) n (suc j) m)))))
-
--- each count has room for one more
-pub record Room (c : Counts) : Type 0 where
-  pub instructions : c .instructions < maxRows
-  pub oob : c .oob < maxRows
-  pub empty : c .empty < maxRows
-
-pub room : (r : ℕ → Cells) (i : ℕ) (c : Counts) → i < maxRows → plainCounts c ≡ counts (table i r) → Room c
-room r i c l e =
-    let b = rw (← e) at (counts-below r i) in
-    record { instructions = omega (arith, b .instructions); oob = omega (arith, b .oob); empty = omega (arith, b .empty) }
-
--- one row more is counted
-pub counted-next : (r : ℕ → Cells) (i : ℕ) (c d : Counts) (x : Cells) → plainCounts c ≡ counts (table i r) → x ≡ r i
-    → plainCounts d ≡ counted (plainCounts c) x → plainCounts d ≡ counts (table (i + 1) r)
-counted-next r i c d x e f g = rw (add-one i, counts-next r i, ← e, ← f) g
-
--- the counts by a row's cells are those by the row
-pub counted-cells : (c d : Counts) (y : Cells) (stamp ooob ct : ℕ) → stamp ≡ y .stamp → ooob ≡ y .ooob → ct ≡ y .ct
-    → (d .instructions ≡ c .instructions + bit (not (eqb stamp 0) && eqb ct 0))
-    × (d .oob ≡ c .oob + bit ((not (eqb stamp 0) && eqb ct 0) && eqb ooob 1))
-    × (d .empty ≡ c .empty + bit (not (not (eqb stamp 0))))
-    → plainCounts d ≡ counted (plainCounts c) y
-unfolding starts inUse
-counted-cells c d y stamp ooob ct e f g (a, b, z) = rw (a, b, z, e, f, g)

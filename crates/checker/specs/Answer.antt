@@ -1,15 +1,10 @@
 -- What the checker's answer says: the model's verdict, and document 01's numbers for each case.
 use Prim.Native.Nat.{ℕ}
-use Rattle.model.specs.Cycles as cycles
 use Rattle.model.specs.Verdict as model
 use Rattle.refusal.specs.Refusals.{lineless}
-use Rattle.checker.specs.declared.Counts.{Counts}
+use Rattle.count.specs.Counts.{toldCounts}
 use Rattle.checker.specs.declared.Verdict.{Verdict}
 use Rattle.checker.specs.declared.Verdict.the-variants.{Accepted, Broken, Refused}
-
--- the counts that tell those of the model
-abbrev pub toldCounts : cycles.Counts → Counts
-toldCounts c = record { instructions = c .instructions; oob = c .oob; empty = c .empty }
 
 -- the answer that tells a verdict of the model
 abbrev pub told : model.Verdict → Verdict

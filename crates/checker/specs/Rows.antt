@@ -1,28 +1,15 @@
 -- What the checker works out and knows as it goes from row to row.
 use Prim.Native.Nat.{ℕ, _+_}
-use mathlib.Core.Bool.{Bool, true, not, _&&_}
+use mathlib.Core.Bool.{Bool, true}
 use mathlib.Core.List.{List}
 use lib.Dec.{eqb}
 use Rattle.model.specs.Columns.{Cells}
-use Rattle.model.specs.Constraints.{k9, k25, inUse, constraintsBy, firstFailed}
+use Rattle.model.specs.Constraints.{k9, k25, constraintsBy, firstFailed}
 use Rattle.model.specs.Cycles as model
 use Rattle.model.specs.State.{contextOf}
-use Rattle.model.specs.Tests.{pick, bit}
+use Rattle.model.specs.Tests.{pick}
 use Rattle.model.specs.Verdict.{rowBefore}
 use Rattle.recent.specs.Notes.{recalled}
-use Rattle.checker.specs.declared.Counts.{Counts}
-
--- the counts, as the model has them
-abbrev pub plainCounts : Counts → model.Counts
-plainCounts c = record { instructions = c .instructions; oob = c .oob; empty = c .empty }
-
--- the counts once a row was counted: an instruction where a cycle starts, an empty row where STAMP is 0
-abbrev pub counted : model.Counts → Cells → model.Counts
-counted c x = record {
-  instructions = c .instructions + bit (model.starts x);
-  oob = c .oob + bit (model.starts x && eqb (x .ooob) 1);
-  empty = c .empty + bit (not (inUse x));
-}
 
 -- the answer to constraint 9 for row i: it is asked where a cycle starts, of the state that the notes on the rows before and else the look-up show.
 -- There are `cycles` cycles before the row.

@@ -2,19 +2,12 @@
 ghost use mathlib.Core.Path.{_≡_};
 ghost use Rattle.model.specs.Verdict.{verdict};
 ghost use Rattle.checker.specs.Answer.{told};
+use count::Counts;
 use model::MAX_ROWS;
 use model::ROW_BYTES;
 use refusal::Refusal;
 
-pub mod count;
 mod judge;
-
-// How many instructions a trace has, how many of them are out of bounds, and how many empty rows.
-pub struct Counts {
-    pub instructions: u64,
-    pub oob: u64,
-    pub empty: u64,
-}
 
 // What the checker answers: document 01's numbers for each case are `numbers` of specs/Answer.antt.
 pub enum Verdict {

@@ -15,8 +15,9 @@ use Rattle.model.proofs.InstructionLaws.{instructions-counted}
 use Rattle.model.proofs.VerdictLaws.{verdict-accepted}
 use Rattle.refusal.specs.Refusals.{lineless, notAccepted}
 use Rattle.refusal.specs.declared.Refusal.{Refusal}
-use Rattle.checker.specs.Answer.{toldCounts, told}
-use Rattle.checker.specs.declared.Counts.{Counts}
+use Rattle.count.specs.Counts.{toldCounts}
+use Rattle.count.specs.declared.Counts.{Counts}
+use Rattle.checker.specs.Answer.{told}
 use Rattle.checker.specs.declared.Verdict.the-variants as checker
 use Rattle.trace.specs.Asked.{Answer, given, refused, ofAccepted, admitted}
 use Rattle.trace.specs.Told.{toldAdmitted}

@@ -6,7 +6,7 @@ use Rattle.model.specs.Cycles as model
 use Rattle.refusal.specs.Refusals.{lineless, noRefusal}
 use Rattle.refusal.specs.declared.Refusal.{Refusal}
 use Rattle.claim.specs.Told.{toldClaim}
-use Rattle.checker.specs.Answer.{toldCounts}
+use Rattle.count.specs.Counts.{toldCounts}
 use Rattle.trace.specs.Asked.{Answer, given, refused}
 use Rattle.trace.specs.declared.admit.Admitted.{Admitted}
 use Rattle.trace.specs.declared.admit.Admitted.the-variants as admit

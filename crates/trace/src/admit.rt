@@ -2,7 +2,7 @@
 ghost use mathlib.Core.Path.{_≡_};
 ghost use Rattle.trace.specs.Asked.{admitted};
 ghost use Rattle.trace.specs.Told.{toldAdmitted};
-use checker::Counts;
+use count::Counts;
 use checker::Verdict;
 use checker::check;
 use refusal::Refusal;

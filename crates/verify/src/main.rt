@@ -3,7 +3,7 @@
 ghost use Rattle.text.specs.Line.{Front};
 ghost use Rattle.checker.specs.declared.Verdict.the-variants.{Accepted, Broken};
 ghost use Rattle.verify.specs.Report.{line, report};
-use checker::Counts;
+use count::Counts;
 use checker::Verdict;
 use console::Input;
 use console::read_input;

@@ -1,5 +1,5 @@
 -- `account::put_lines` meets its contract. The invariant: the lines of the instructions among the first i rows are put, within room for a line a row, and the rows
--- are counted. The rows that are left fall. `lines-next` and the checker's `counted-next` give one row more.
+-- are counted. The rows that are left fall. `lines-next` and `counted-next` give one row more.
 use Prim.Native.Nat.{_*_, _-_, _≤_}
 use mathlib.Core.Path.{_≡_, sym}
 use native.Mathlib.Omega.{arith}
@@ -8,9 +8,8 @@ use Rattle.model.specs.Columns.{rowAt, table}
 use Rattle.model.specs.Cycles.{cycles, counts}
 use Rattle.model.proofs.TableOf.{length-table}
 use Rattle.text.specs.Line.{Put}
-use Rattle.checker.specs.Rows.{plainCounts}
-use Rattle.checker.proofs.CountLaws.{counts-none}
-use Rattle.checker.proofs.RowLaws.{room, counted-next}
+use Rattle.count.specs.Counts.{plainCounts}
+use Rattle.count.proofs.CountLaws.{counts-none, room, counted-next}
 use Rattle.account.specs.Report.{linesText}
 use Rattle.account.specs.Room.{maxLine}
 use Rattle.account.proofs.ReportLaws.{put-none, put-next}

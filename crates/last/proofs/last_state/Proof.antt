@@ -5,7 +5,7 @@ use borrow.Author.Needs.{needs}
 use Rattle.model.specs.Columns.{rowsOf}
 use Rattle.model.specs.Cycles.{counts}
 use Rattle.model.specs.Promises.{Accepted}
-use Rattle.checker.specs.Answer.{toldCounts}
+use Rattle.count.specs.Counts.{toldCounts}
 use Rattle.last.specs.Last.{lastOf, toldLast}
 use Rattle.last.specs.declared.Last.the-variants.{Refused}
 use Rattle.trace.proofs.AdmitLaws.{accepted-if-admitted, refused-if-not-admitted, instructions-told}

@@ -6,7 +6,7 @@ use borrow.Author.Needs.{needs}
 use Rattle.model.specs.Columns.{rowsOf}
 use Rattle.model.specs.Cycles.{counts, nextRow}
 use Rattle.model.specs.Promises.{Accepted}
-use Rattle.checker.specs.Answer.{toldCounts}
+use Rattle.count.specs.Counts.{toldCounts}
 use Rattle.trace.proofs.AdmitLaws.{accepted-if-admitted, refused-if-not-admitted, empty-told}
 use Rattle.walker.specs.Walk.{startOf}
 use Rattle.walker.proofs.start_of.Statement.{statement}

@@ -11,9 +11,9 @@ use Rattle.model.specs.Verdict.{rowBefore, brokenAt, judged, meet}
 use Rattle.recent.specs.Notes.{Notes}
 use Rattle.recent.proofs.NoteLaws.{notes-first}
 use Rattle.row.proofs.PlaceLaws.{from-row}
-use Rattle.checker.specs.Rows.{plainCounts}
-use Rattle.checker.proofs.RowLaws.{broken-is, meets-first, meets-next, told-broken, told-accepted, room, counted-next, counted-cells}
-use Rattle.checker.proofs.CountLaws.{counts-none}
+use Rattle.count.specs.Counts.{plainCounts}
+use Rattle.count.proofs.CountLaws.{counts-none, room, counted-next, counted-cells}
+use Rattle.checker.proofs.RowLaws.{broken-is, meets-first, meets-next, told-broken, told-accepted}
 use Rattle.checker.proofs.judge.verdict_on.Statement.{statement}
 use Rattle.checker.proofs.judge.verdict_on.Tie as tie
 

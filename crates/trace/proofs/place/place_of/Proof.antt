@@ -12,7 +12,7 @@ use Rattle.model.specs.Columns.{rowsOf}
 use Rattle.model.specs.Cycles.{counts, nextRow}
 use Rattle.model.specs.Promises.{Accepted, claimsIn}
 use Rattle.model.proofs.InstructionLaws.{next-there}
-use Rattle.checker.specs.Answer.{toldCounts}
+use Rattle.count.specs.Counts.{toldCounts}
 use Rattle.trace.specs.Asked.{whereIs}
 use Rattle.trace.specs.Told.{toldPlace}
 use Rattle.trace.specs.declared.place.Place.the-variants.{At, Refused}

@@ -1,8 +1,9 @@
 -- The counts of rows, counted row by row.
-use Prim.Native.Nat.{ℕ, zero, suc, _+_, _≤_}
+use Prim.Native.Nat.{ℕ, zero, suc, _+_, _≤_, _<_}
 use mathlib.Core.Bool.{Bool, true, false, not, _&&_}
 use mathlib.Core.List.{List, [], _∷_, _++_}
 use mathlib.Core.Path.{_≡_, refl, _∙_, ap}
+use native.Mathlib.Numerals.{add-one}
 use native.Mathlib.Omega.{arith}
 use lib.Dec.{eqb}
 use lib.ListN.{length, length-append}
@@ -10,9 +11,11 @@ use Rattle.model.specs.Columns.{Cells, table}
 use Rattle.model.specs.Constraints.{inUse}
 use Rattle.model.specs.Cycles.{Cycle, Counts, starts, cyclesFrom, count, isOob, emptyRows, counts}
 use Rattle.model.specs.Tests.{pick, bit}
+use Rattle.model.specs.Verdict.{maxRows}
 use Rattle.model.proofs.ReadBack.{cycles-join, count-join}
 use Rattle.model.proofs.TableOf.{table-snoc}
-use Rattle.checker.specs.Rows.{counted}
+use Rattle.count.specs.Counts.{counted, plainCounts}
+use Rattle.count.specs.declared.Counts as code
 
 -- the cycle that a row adds, if it starts one
 abbrev added : Bool → Cycle → List Cycle
@@ -70,3 +73,28 @@ below-next i c x b = record {
 pub counts-below : (r : ℕ → Cells) (i : ℕ) → Below i (counts (table i r))
 counts-below r zero = rw (counts-none r) (record { instructions = omega arith; oob = omega arith; empty = omega arith })
 counts-below r (suc i) = rw (counts-next r i) (below-next i (counts (table i r)) (r i) (counts-below r i))
+
+-- each count has room for one more
+pub record Room (c : code.Counts) : Type 0 where
+  pub instructions : c .instructions < maxRows
+  pub oob : c .oob < maxRows
+  pub empty : c .empty < maxRows
+
+pub room : (r : ℕ → Cells) (i : ℕ) (c : code.Counts) → i < maxRows → plainCounts c ≡ counts (table i r) → Room c
+room r i c l e =
+    let b = rw (← e) at (counts-below r i) in
+    record { instructions = omega (arith, b .instructions); oob = omega (arith, b .oob); empty = omega (arith, b .empty) }
+
+-- one row more is counted
+pub counted-next : (r : ℕ → Cells) (i : ℕ) (c d : code.Counts) (x : Cells) → plainCounts c ≡ counts (table i r) → x ≡ r i
+    → plainCounts d ≡ counted (plainCounts c) x → plainCounts d ≡ counts (table (i + 1) r)
+counted-next r i c d x e f g = rw (add-one i, counts-next r i, ← e, ← f) g
+
+-- the counts by a row's cells are those by the row
+pub counted-cells : (c d : code.Counts) (y : Cells) (stamp ooob ct : ℕ) → stamp ≡ y .stamp → ooob ≡ y .ooob → ct ≡ y .ct
+    → (d .instructions ≡ c .instructions + bit (not (eqb stamp 0) && eqb ct 0))
+    × (d .oob ≡ c .oob + bit ((not (eqb stamp 0) && eqb ct 0) && eqb ooob 1))
+    × (d .empty ≡ c .empty + bit (not (not (eqb stamp 0))))
+    → plainCounts d ≡ counted (plainCounts c) y
+unfolding starts inUse
+counted-cells c d y stamp ooob ct e f g (a, b, z) = rw (a, b, z, e, f, g)

@@ -1,9 +1,9 @@
--- `checker::count::starts_cycle` is `starts`, unfolded, by the cells of the row.
+-- `count::starts_cycle` is `starts`, unfolded, by the cells of the row.
 use borrow.Author.Needs.{needs}
 use Rattle.model.specs.Constraints.{inUse}
 use Rattle.model.specs.Cycles.{starts}
-use Rattle.checker.proofs.count.starts_cycle.Statement.{statement}
-use Rattle.checker.proofs.count.starts_cycle.Tie as tie
+use Rattle.count.proofs.starts_cycle.Statement.{statement}
+use Rattle.count.proofs.starts_cycle.Tie as tie
 
 is-start-requires : tie.Need-is-start-requires
 is-start-requires c κs = search needs

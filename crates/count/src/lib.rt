@@ -1,4 +1,5 @@
-// The counts of a trace, row by row. Only crates of this repository call these functions.
+// The counts of a trace, row by row: of its instructions, of those out of bounds and of its empty rows. The checker and `account` count by these
+// functions; an operator calls none of them.
 ghost use mathlib.Core.Path.{_≡_};
 ghost use mathlib.Core.Bool.{not, _&&_};
 ghost use Prim.Native.Nat.{_+_, _<_};
@@ -7,10 +8,16 @@ ghost use Rattle.model.specs.Cycles.{starts};
 ghost use Rattle.model.specs.Tests as tests;
 ghost use Rattle.model.specs.Verdict.{maxRows};
 ghost use Rattle.row.specs.Plain.{plain};
-ghost use Rattle.checker.specs.Rows.{counted, plainCounts};
-use crate::Counts;
+ghost use Rattle.count.specs.Counts.{counted, plainCounts};
 use row::cells::Row;
 use words::bit;
+
+// How many instructions a trace has, how many of them are out of bounds, and how many empty rows.
+pub struct Counts {
+    pub instructions: u64,
+    pub oob: u64,
+    pub empty: u64,
+}
 
 // Whether a cycle starts with a row that has this STAMP and CT.
 pub fn is_start(stamp: u32, ct: u8) -> bool

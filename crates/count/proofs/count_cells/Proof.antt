@@ -1,7 +1,7 @@
--- `checker::count::count_cells` counts one more row, number by number.
+-- `count::count_cells` counts one more row, number by number.
 use borrow.Author.Needs.{needs}
-use Rattle.checker.proofs.count.count_cells.Statement.{statement}
-use Rattle.checker.proofs.count.count_cells.Tie as tie
+use Rattle.count.proofs.count_cells.Statement.{statement}
+use Rattle.count.proofs.count_cells.Tie as tie
 
 is-start-requires : tie.Need-is-start-requires
 is-start-requires c κs = search needs
@@ -25,7 +25,15 @@ add-t15 : tie.Need-add-t15
 add-t15 c = search needs
 
 returns : tie.Need-returns
-returns c = (cc, cc, cc)
+returns c =
+    let oob = c .before .before .before in
+    let instructions = oob .before .before in
+    let starts = instructions .before .is-start .ensures in
+    (
+      rw (instructions .bit .ensures .0, starts),
+      rw (oob .bit2 .ensures .0, starts),
+      rw (c .before .bit3 .ensures .0),
+    )
 
 pub count-cells-spec : {M : Type 1} → statement M
 count-cells-spec =

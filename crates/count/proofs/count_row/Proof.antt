@@ -1,9 +1,9 @@
--- `checker::count::count_row` counts one more row by its cells (`counted-cells`).
+-- `count::count_row` counts one more row by its cells (`counted-cells`).
 use mathlib.Core.Path.{refl}
 use borrow.Author.Needs.{needs}
-use Rattle.checker.proofs.RowLaws.{counted-cells}
-use Rattle.checker.proofs.count.count_row.Statement.{statement}
-use Rattle.checker.proofs.count.count_row.Tie as tie
+use Rattle.count.proofs.CountLaws.{counted-cells}
+use Rattle.count.proofs.count_row.Statement.{statement}
+use Rattle.count.proofs.count_row.Tie as tie
 
 count-cells-requires : tie.Need-count-cells-requires
 count-cells-requires c κs = search needs
