@@ -8,7 +8,7 @@ use native.Mathlib.Omega.{arith}
 use borrow.Author.Tests.{eq-eqb, ne-eqb, eqb-true, eqb-false, ltb-true, ltb-false}
 use lib.Dec.{eqb, ltb, lit<}
 use Rattle.number.specs.Tests.{pick}
-use Rattle.number.proofs.LongLaws.{whole-long}
+use Rattle.long.proofs.LongLaws.{whole-long}
 use Rattle.number.proofs.TestLaws.{both, both-intro, either}
 use Rattle.opcode.specs.Opcodes.{unlisted, touchesNothing, touchesWord, touchesByte, touchesRange, categoryOf}
 use Rattle.gas.specs.Gas.{wordBytes, rangeEnd}

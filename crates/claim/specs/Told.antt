@@ -1,6 +1,7 @@
 -- The code's fields, instructions and claims as those of the definitions, and back.
 use Prim.Native.Nat.{ℕ}
-use Rattle.number.specs.Whole.{val, wide, whole, long}
+use Rattle.number.specs.Whole.{val, wide}
+use Rattle.long.specs.Halves.{whole, long}
 use Rattle.model.specs.Cycles as model
 use Rattle.refusal.specs.Refusals.{inLine}
 use Rattle.state.specs.Plain.{context}

@@ -6,8 +6,8 @@ ghost use Rattle.claim.specs.Told.{plainRange, plainInstruction, toldCla
 use crate::instruction::Instruction;
 use crate::instruction::Range;
 use crate::instruction::Touched;
-use number::long::is_zero;
-use number::long::sum;
+use long::is_zero;
+use long::sum;
 use number::wide::Wide;
 use number::wide::small;
 use state::Context;

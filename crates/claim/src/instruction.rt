@@ -1,12 +1,12 @@
 // The fields of a line, and the instruction that they are.
 ghost use mathlib.Core.Path.{_≡_};
-ghost use Rattle.number.specs.Whole.{whole};
+ghost use Rattle.long.specs.Halves.{whole};
 ghost use Rattle.claim.specs.Instruction.{one, range, uses, useOf, unusedZero, decode};
 ghost use Rattle.claim.specs.Told.{plainFields, toldUse, toldDecoded};
 use gas::WORD_BYTES;
-use number::long::Long;
-use number::long::is_zero;
-use number::long::small;
+use long::Long;
+use long::is_zero;
+use long::small;
 use opcode::BYTE;
 use opcode::NOTHING;
 use opcode::RANGE;

@@ -6,7 +6,7 @@ use mathlib.Core.Path.{_≡_, refl, sym, _∙_, ap}
 use native.Mathlib.Nat.{sub-zero, suc-sub-suc}
 use native.Mathlib.Omega.{arith}
 use lib.ListN.{length, length-append}
-use Rattle.number.proofs.LongLaws.{val-wide}
+use Rattle.number.proofs.WholeLaws.{val-wide}
 use Rattle.number.proofs.TestLaws.{clash}
 use Rattle.model.specs.Cycles.{Claim}
 use Rattle.model.specs.Trace.{lastOf, trace}

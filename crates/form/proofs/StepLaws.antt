@@ -9,8 +9,8 @@ use native.Mathlib.Omega.{arith}
 use borrow.Author.Tests.{eq-eqb, ne-eqb, lt-ltb, le-ltb}
 use lib.ListN.{length, getD, drop, List·getD-eq-default}
 use lib.Seq.{drop-cons}
-use Rattle.number.specs.Whole.{whole}
-use Rattle.number.specs.declared.long.Long.{Long}
+use Rattle.long.specs.Halves.{whole}
+use Rattle.long.specs.declared.Long.{Long}
 use Rattle.form.specs.Hex.{code-0, code-9, code-a, code-f, isDigit}
 use Rattle.form.specs.Read.{got, stop, noChar, charAt, readText, Run, run, readDigits}
 use Rattle.form.proofs.HexLaws.{digit-cases}

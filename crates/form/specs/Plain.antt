@@ -1,7 +1,7 @@
 -- What the readers' answers say.
 use Prim.Native.Nat.{ℕ}
 use mathlib.Core.List.{List}
-use Rattle.number.specs.Whole.{whole}
+use Rattle.long.specs.Halves.{whole}
 use Rattle.form.specs.Form as form
 use Rattle.form.specs.Read.{Read, got, stop, Run}
 use Rattle.form.specs.declared.Digits.{Digits}

@@ -9,9 +9,9 @@ ghost use Rattle.form.specs.Hex.{code-0, isDigit, digitOf};
 ghost use Rattle.form.specs.Form.{readKind, readField};
 ghost use Rattle.form.specs.Plain.{mostDigits, digitsOf, plainKind, fieldOf, matched, digitRun, number};
 ghost use Rattle.form.specs.Read.{charAt, readText, run, readDigits, readNumber};
-use number::long::Long;
-use number::long::push_digit;
-use number::long::small;
+use long::Long;
+use long::push_digit;
+use long::small;
 
 // How a number is written.
 pub enum Kind {

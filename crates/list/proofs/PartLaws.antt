@@ -3,8 +3,8 @@ use Prim.Native.Nat.{ℕ, _+_, _*_, _^_, _≤_, _<_}
 use mathlib.Core.List.{List, [], _∷_, _++_, append-nil}
 use mathlib.Core.Path.{_≡_, refl, _∙_}
 use native.Mathlib.Omega.{arith}
-use Rattle.number.specs.Whole.{whole}
-use Rattle.number.specs.declared.long.Long.{Long}
+use Rattle.long.specs.Halves.{whole}
+use Rattle.long.specs.declared.Long.{Long}
 use Rattle.number.proofs.TestLaws.{clash}
 use Rattle.form.specs.Form.{Field, room, readKind, readField, readForm}
 use Rattle.form.specs.Read.{Read, got, stop, andThen, readText}

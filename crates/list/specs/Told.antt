@@ -1,7 +1,7 @@
 -- The code's answers as those of the definitions, and back.
 use Prim.Native.Nat.{ℕ}
 use mathlib.Core.List.{List, [], _∷_}
-use Rattle.number.specs.Whole.{whole}
+use Rattle.long.specs.Halves.{whole}
 use Rattle.form.specs.Read.{Read, got, stop}
 use Rattle.refusal.specs.Refusals.{inLine}
 use Rattle.claim.specs.Instruction as plain

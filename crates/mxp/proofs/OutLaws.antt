@@ -2,7 +2,7 @@
 use Prim.Native.Nat.{ℕ}
 use mathlib.Core.List.{List, [], _∷_}
 use mathlib.Core.Path.{_≡_, sym, _∙_, ap}
-use Rattle.number.proofs.LongLaws.{val-wide}
+use Rattle.number.proofs.WholeLaws.{val-wide}
 use Rattle.number.proofs.TestLaws.{clash}
 use Rattle.model.specs.Cycles as model
 use Rattle.claim.specs.Told.{toldClaim}

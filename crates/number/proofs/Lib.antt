@@ -3,7 +3,6 @@ pub mod DigitLaws
 pub mod CellLaws
 pub mod SumLaws
 pub mod WholeLaws
-pub mod LongLaws
 pub mod StoreLaws
 pub mod TestLaws
 pub mod TableLaws

@@ -10,10 +10,33 @@ use native.Mathlib.Omega.{arith}
 use lib.Dec.{eqb, ltb}
 use borrow.Author.Tests.{eq-eqb, eqb-true, lt-ltb, ltb-true}
 use Rattle.number.specs.Num.{num, be}
-use Rattle.number.specs.Whole.{val}
+use Rattle.number.specs.Whole.{val, wide}
 use Rattle.number.specs.declared.wide.Wide.{Wide}
 use Rattle.number.proofs.NumLaws.{num-add, be-add}
 use Rattle.number.proofs.TestLaws.{same-test, both, both-intro, either, either-left, either-right}
+
+-- ---- a number by its parts
+
+-- a number in two parts, the last below 2^64, has no other parts
+pub parts-of : (v x y : ℕ) → x * 2 ^ 64 + y ≡ v → y < 2 ^ 64 → (x ≡ v / 2 ^ 64) × (y ≡ v % 2 ^ 64)
+parts-of v x y e h = omega arith
+
+-- and these are its parts
+pub parts-join : (v : ℕ) → v / 2 ^ 64 * 2 ^ 64 + v % 2 ^ 64 ≡ v
+parts-join v = omega arith
+
+-- the value of 17 bytes of a number holds it
+pub val-wide : (v : ℕ) → val (wide v) ≡ v
+unfolding val wide
+val-wide v = rw (parts-join (v / 2 ^ 64), parts-join v)
+
+-- a value of 17 bytes is that of the number that it holds
+pub wide-is : (w : Wide) (v : ℕ) → val w ≡ v → w .hi < 2 ^ 64 → w .lo < 2 ^ 64 → w ≡ wide v
+unfolding val wide
+wide-is w v e h l =
+    let last = parts-of v (w .top * 2 ^ 64 + w .hi) (w .lo) e l in
+    let first = parts-of (v / 2 ^ 64) (w .top) (w .hi) (last .0) h in
+    λ i. record { top = first .0 i; hi = first .1 i; lo = last .1 i }
 
 -- ---- two numbers in two parts each: equal, and in order
 

@@ -1,6 +1,5 @@
--- The whole number that a value of 17 bytes or of two halves holds, the value of a number, and the bound on ends.
+-- The whole number that a value of 17 bytes holds, the value of a number, and the bound on ends.
 use Prim.Native.Nat.{ℕ, _+_, _*_, _/_, _%_, _^_}
-use Rattle.number.specs.declared.long.Long.{Long}
 use Rattle.number.specs.declared.wide.Wide.{Wide}
 
 -- its first byte, the 8 bytes after that and the last 8
@@ -10,14 +9,6 @@ val w = (w .top * 2 ^ 64 + w .hi) * 2 ^ 64 + w .lo
 -- the value of 17 bytes that holds a number below 2^136
 unfoldable pub wide : ℕ → Wide
 wide v = record { top = v / 2 ^ 64 / 2 ^ 64; hi = v / 2 ^ 64 % 2 ^ 64; lo = v % 2 ^ 64 }
-
--- its first 64 bits and its last 64
-unfoldable pub whole : Long → ℕ
-whole x = x .hi * 2 ^ 64 + x .lo
-
--- the halves of a number below 2^128
-unfoldable pub long : ℕ → Long
-long v = record { hi = v / 2 ^ 64; lo = v % 2 ^ 64 }
 
 -- In bounds: both ends below 2^24.
 abbrev pub bound : ℕ

@@ -2,9 +2,9 @@
 ghost use mathlib.Core.Path.{_≡_};
 ghost use Rattle.trace.specs.Asked.{admitted};
 ghost use Rattle.trace.specs.Told.{toldAdmitted};
-use count::Counts;
 use checker::Verdict;
 use checker::check;
+use count::Counts;
 use refusal::Refusal;
 
 // An accepted trace with its counts, or why there is none.

@@ -3,11 +3,11 @@
 ghost use Rattle.text.specs.Line.{Front};
 ghost use Rattle.checker.specs.declared.Verdict.the-variants.{Accepted, Broken};
 ghost use Rattle.verify.specs.Report.{line, report};
-use count::Counts;
 use checker::Verdict;
 use console::Input;
 use console::read_input;
 use console::write_output;
+use count::Counts;
 use text::put_bytes;
 use text::put_field;
 

@@ -28,8 +28,7 @@ returns : tie.Need-returns
 returns c =
     let oob = c .before .before .before in
     let instructions = oob .before .before in
-    let starts = instructions .before .is-start .ensures in
-    (
+    let starts = instructions .before .is-start .ensures in (
       rw (instructions .bit .ensures .0, starts),
       rw (oob .bit2 .ensures .0, starts),
       rw (c .before .bit3 .ensures .0),

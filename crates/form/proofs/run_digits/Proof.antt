@@ -8,8 +8,8 @@ use native.Mathlib.Numerals.{add-one}
 use native.Mathlib.Omega.{arith}
 use borrow.Author.Needs.{needs}
 use borrow.Author.Tests.{not-true, not-false}
-use Rattle.number.specs.Whole.{whole}
-use Rattle.number.proofs.LongLaws.{whole-long}
+use Rattle.long.specs.Halves.{whole}
+use Rattle.long.proofs.LongLaws.{whole-long}
 use Rattle.form.specs.Hex.{isDigit, digitOf}
 use Rattle.form.specs.Read.{charAt, run}
 use Rattle.form.proofs.StepLaws.{char-in, no-digit-past, digit-room, digit-less}

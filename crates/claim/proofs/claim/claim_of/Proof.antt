@@ -2,7 +2,7 @@
 -- holds.
 use native.Mathlib.Omega.{arith}
 use borrow.Author.Needs.{needs}
-use Rattle.number.proofs.LongLaws.{wide-is}
+use Rattle.number.proofs.WholeLaws.{wide-is}
 use Rattle.claim.specs.Claims.{claimOf}
 use Rattle.claim.proofs.claim.claim_of.Statement.{statement}
 use Rattle.claim.proofs.claim.claim_of.Tie as tie

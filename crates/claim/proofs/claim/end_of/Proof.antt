@@ -3,8 +3,9 @@ use mathlib.Core.Path.{sym, _∙_, ap}
 use native.Mathlib.Omega.{arith}
 use borrow.Author.Needs.{needs}
 use borrow.Author.Tests.{eqb-true, eqb-false}
-use Rattle.number.specs.Whole.{wide, whole}
-use Rattle.number.proofs.LongLaws.{wide-is}
+use Rattle.number.specs.Whole.{wide}
+use Rattle.long.specs.Halves.{whole}
+use Rattle.number.proofs.WholeLaws.{wide-is}
 use Rattle.claim.proofs.ClaimLaws.{end-none, end-sum}
 use Rattle.claim.proofs.claim.end_of.Statement.{statement}
 use Rattle.claim.proofs.claim.end_of.Tie as tie

@@ -1,7 +1,7 @@
 -- `claim::instruction::one_range` meets its contract: halves are those of the number that they hold.
 use mathlib.Core.Path.{refl}
 use native.Mathlib.Omega.{arith}
-use Rattle.number.proofs.LongLaws.{long-is}
+use Rattle.long.proofs.LongLaws.{long-is}
 use Rattle.claim.specs.declared.instruction.Touched.the-variants.{One}
 use Rattle.claim.proofs.instruction.one_range.Statement.{statement}
 use Rattle.claim.proofs.instruction.one_range.Tie as tie

@@ -4,8 +4,8 @@ use mathlib.Core.Path.{refl, _∙_, ap}
 use native.Mathlib.Omega.{arith}
 use borrow.Author.Needs.{needs}
 use borrow.Author.Tests.{ne-eqb}
-use Rattle.number.specs.Whole.{whole}
-use Rattle.number.proofs.LongLaws.{whole-long, long-is}
+use Rattle.long.specs.Halves.{whole}
+use Rattle.long.proofs.LongLaws.{whole-long, long-is}
 use Rattle.gas.specs.Gas.{wordBytes}
 use Rattle.claim.specs.Instruction.{useOf}
 use Rattle.claim.specs.declared.instruction.Touched.the-variants.{Two}

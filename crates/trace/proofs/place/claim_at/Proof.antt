@@ -2,7 +2,7 @@
 use mathlib.Core.Path.{sym, _∙_, ap}
 use native.Mathlib.Omega.{arith}
 use borrow.Author.Needs.{needs}
-use Rattle.number.proofs.LongLaws.{wide-is}
+use Rattle.number.proofs.WholeLaws.{wide-is}
 use Rattle.model.specs.Columns.{Cells}
 use Rattle.model.specs.State.{Context, contextOf}
 use Rattle.trace.specs.Asked.{whereIs}

@@ -1,9 +1,10 @@
-// Numbers below 2^128, the offsets and lengths of a list, as two halves of 64 bits.
+// Numbers below 2^128, the offsets and lengths of a list, as two halves of 64 bits. Only crates of this repository call these functions.
 ghost use mathlib.Core.Path.{_≡_};
 ghost use Prim.Native.Nat.{_+_, _*_, _^_, _<_};
 ghost use lib.Dec.{eqb};
-ghost use Rattle.number.specs.Whole.{whole, long, wide};
-use crate::wide::Wide;
+ghost use Rattle.number.specs.Whole.{wide};
+ghost use Rattle.long.specs.Halves.{whole, long};
+use number::wide::Wide;
 
 // The first 64 bits and the last 64.
 pub struct Long {

@@ -1,4 +1,4 @@
--- Laws of numbers in two halves and of their sums, all from one: the parts of a number at base 2 ^ 64 are its own.
+-- Laws of numbers in two halves and of their sums: the parts of a number at base 2 ^ 64 are its own (`parts-of`).
 use Prim.Native.Nat.{ℕ, _+_, _*_, _/_, _%_, _^_, _<_}
 use mathlib.Core.Bool.{true, _&&_}
 use mathlib.Core.Path.{_≡_}
@@ -6,18 +6,12 @@ use native.Mathlib.Nat.{add-mul}
 use native.Mathlib.Omega.{arith}
 use lib.Dec.{eqb}
 use borrow.Author.Tests.{eq-eqb, eqb-true}
-use Rattle.number.specs.Whole.{val, wide, whole, long}
-use Rattle.number.specs.declared.long.Long.{Long}
+use Rattle.number.specs.Whole.{val}
 use Rattle.number.specs.declared.wide.Wide.{Wide}
 use Rattle.number.proofs.TestLaws.{same-test, both, both-intro}
-
--- a number in two parts, the last below 2^64, has no other parts
-parts-of : (v x y : ℕ) → x * 2 ^ 64 + y ≡ v → y < 2 ^ 64 → (x ≡ v / 2 ^ 64) × (y ≡ v % 2 ^ 64)
-parts-of v x y e h = omega arith
-
--- and these are its parts
-parts-join : (v : ℕ) → v / 2 ^ 64 * 2 ^ 64 + v % 2 ^ 64 ≡ v
-parts-join v = omega arith
+use Rattle.number.proofs.WholeLaws.{parts-of, parts-join}
+use Rattle.long.specs.Halves.{whole, long}
+use Rattle.long.specs.declared.Long.{Long}
 
 -- the halves of a number hold it
 pub whole-long : (v : ℕ) → whole (long v) ≡ v
@@ -50,19 +44,6 @@ eqb-whole x = same-test (eqb (x .hi) 0 && eqb (x .lo) 0) (eqb (x .hi * 2 ^ 64 + 
 pub digit-more : (x : Long) (d : ℕ) → (x .hi * 16 + x .lo / 2 ^ 60) * 2 ^ 64 + (x .lo % 2 ^ 60 * 16 + d) ≡ whole x * 16 + d
 unfolding whole
 digit-more x d = omega arith
-
--- the value of 17 bytes of a number holds it
-pub val-wide : (v : ℕ) → val (wide v) ≡ v
-unfolding val wide
-val-wide v = rw (parts-join (v / 2 ^ 64), parts-join v)
-
--- a value of 17 bytes is that of the number that it holds
-pub wide-is : (w : Wide) (v : ℕ) → val w ≡ v → w .hi < 2 ^ 64 → w .lo < 2 ^ 64 → w ≡ wide v
-unfolding val wide
-wide-is w v e h l =
-    let last = parts-of v (w .top * 2 ^ 64 + w .hi) (w .lo) e l in
-    let first = parts-of (v / 2 ^ 64) (w .top) (w .hi) (last .0) h in
-    λ i. record { top = first .0 i; hi = first .1 i; lo = last .1 i }
 
 -- two sums, the carry of the last taken into the first, at any base: `omega` takes no coefficient past 2^64
 carried : (K ah al bh bl top hi carry lo : ℕ) → carry * K + lo ≡ al + bl + 0 → top * K + hi ≡ ah + bh + carry

@@ -1,9 +1,10 @@
--- `number::long::sum` meets its contract: the sum by halves, the carry of the last into the first.
+-- `long::sum` meets its contract: the sum by halves, the carry of the last into the first.
 use native.Mathlib.Omega.{arith}
 use borrow.Author.Needs.{needs}
-use Rattle.number.proofs.LongLaws.{wide-is, halves-sum}
-use Rattle.number.proofs.long.sum.Statement.{statement}
-use Rattle.number.proofs.long.sum.Tie as tie
+use Rattle.number.proofs.WholeLaws.{wide-is}
+use Rattle.long.proofs.LongLaws.{halves-sum}
+use Rattle.long.proofs.sum.Statement.{statement}
+use Rattle.long.proofs.sum.Tie as tie
 
 add-requires : tie.Need-add-requires
 add-requires c κs = search needs

@@ -1,11 +1,11 @@
--- `number::long::push_digit` meets its contract: `digit-more` says what each half gains and loses.
+-- `long::push_digit` meets its contract: `digit-more` says what each half gains and loses.
 use Prim.Native.Nat.{_+_, _*_}
 use native.Mathlib.Omega.{arith}
 use borrow.Author.Needs.{needs}
-use Rattle.number.specs.Whole.{whole}
-use Rattle.number.proofs.LongLaws.{long-is, digit-more}
-use Rattle.number.proofs.long.push_digit.Statement.{statement}
-use Rattle.number.proofs.long.push_digit.Tie as tie
+use Rattle.long.specs.Halves.{whole}
+use Rattle.long.proofs.LongLaws.{long-is, digit-more}
+use Rattle.long.proofs.push_digit.Statement.{statement}
+use Rattle.long.proofs.push_digit.Tie as tie
 
 mul-t3 : tie.Need-mul-t3
 mul-t3 c = search needs
