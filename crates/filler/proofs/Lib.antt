@@ -4,4 +4,3 @@ pub mod RecallLaws
 pub mod WriteLaws
 pub mod FillLaws
 pub mod Theorems
-pub mod OneAnswer

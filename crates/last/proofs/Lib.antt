@@ -1,4 +1,3 @@
 pub mod EndLaws
 pub mod LastLaws
 pub mod Theorems
-pub mod OneAnswer

@@ -2,4 +2,3 @@ pub mod Examples
 pub mod PartLaws
 pub mod LineLaws
 pub mod ListLaws
-pub mod OneAnswer

@@ -1,2 +1,1 @@
 pub mod OutLaws
-pub mod OneAnswer

@@ -1,4 +1,3 @@
 pub mod AdmitLaws
 pub mod PlaceLaws
 pub mod Theorems
-pub mod OneAnswer

@@ -3,4 +3,3 @@ pub mod Called
 pub mod Held
 pub mod Lent
 pub mod Theorems
-pub mod OneAnswer
