@@ -1,2 +1,3 @@
+-- The definitions of `account`.
 pub mod Report
 pub mod Room

@@ -1,2 +1,3 @@
+-- The definitions of `checker`.
 pub mod Answer
 pub mod Rows

@@ -1,2 +1,3 @@
+-- The laws and theorems of `claim` that belong to no one function.
 pub mod ClaimLaws
 pub mod PaperLaws

@@ -14,6 +14,7 @@ end1 nothing = 0
 end1 (one a) = endOf a
 end1 (two a b) = endOf a
 
+-- the end of the second range
 abbrev pub end2 : Touched → ℕ
 end2 nothing = 0
 end2 (one a) = 0

@@ -30,6 +30,7 @@ pub data Touched : Type 0 where
   one : Range → Touched
   two : Range → Range → Touched
 
+-- an instruction: its context, its opcode and what it touches
 pub record Instruction : Type 0 where
   pub context : Context
   pub op : ℕ
@@ -42,9 +43,11 @@ pub record Use : Type 0 where
   pub fields : ℕ
   pub touched : Touched
 
+-- so many fields are used, and this is touched
 abbrev pub uses : (fields : ℕ) → Touched → Use
 uses n t = record { fields = n; touched = t }
 
+-- a range by its two numbers
 abbrev pub range : (at len : ℕ) → Range
 range at len = record { at = at; len = len }
 
@@ -68,9 +71,11 @@ used f = useOf (categoryOf (f .op)) f
 
 -- ---- the instruction of a line, or the number of its refusal
 
+-- the instruction of the fields
 abbrev pub instructionOf : Fields → Instruction
 instructionOf f = record { context = record { cn = f .cn }; op = f .op; touched = used f .touched }
 
+-- what a line of the form is
 pub data Decoded : Type 0 where
   decoded : Instruction → Decoded
   refused : ℕ → Decoded

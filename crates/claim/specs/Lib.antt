@@ -1,3 +1,4 @@
+-- The definitions of `claim`.
 pub mod Instruction
 pub mod Claims
 pub mod Paper

@@ -20,6 +20,7 @@ pub record Entry : Type 0 where
   pub opcode : ℕ
   pub words : ℕ → Fields → ℕ
 
+-- an entry by its two parts
 abbrev pub entry : ℕ → (ℕ → Fields → ℕ) → Entry
 entry op w = record { opcode = op; words = w }
 

@@ -39,6 +39,7 @@ pub enum Touched {
     Two(Range, Range),
 }
 
+// An instruction: its context, its opcode and what it touches.
 pub struct Instruction {
     pub context: Context,
     pub op: u8,

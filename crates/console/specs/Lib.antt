@@ -1,1 +1,2 @@
+-- The definitions of `console`.
 pub mod Input

@@ -70,6 +70,7 @@ below-next i c x b = record {
   empty = omega (arith, bit-le-one (not (inUse x)));
 }
 
+-- none of the counts of i rows is above i
 pub counts-below : (r : ℕ → Cells) (i : ℕ) → Below i (counts (table i r))
 counts-below r zero = rw (counts-none r) (record { instructions = omega arith; oob = omega arith; empty = omega arith })
 counts-below r (suc i) = rw (counts-next r i) (below-next i (counts (table i r)) (r i) (counts-below r i))
@@ -80,6 +81,7 @@ pub record Room (c : code.Counts) : Type 0 where
   pub oob : c .oob < maxRows
   pub empty : c .empty < maxRows
 
+-- the counts of fewer rows than a trace may have do
 pub room : (r : ℕ → Cells) (i : ℕ) (c : code.Counts) → i < maxRows → plainCounts c ≡ counts (table i r) → Room c
 room r i c l e =
     let b = rw (← e) at (counts-below r i) in

@@ -1,1 +1,2 @@
+-- The definitions of `cycle`.
 pub mod Numbers

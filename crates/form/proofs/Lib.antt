@@ -1,3 +1,4 @@
+-- The laws and theorems of `form` that belong to no one function.
 pub mod Examples
 pub mod HexLaws
 pub mod TextLaws

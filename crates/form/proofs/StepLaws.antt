@@ -27,6 +27,7 @@ char-in (c ∷ t) (suc p) h = char-in t p (omega arith)
 pub char-past : (t : List ℕ) (p : ℕ) → length t ≤ p → charAt t p ≡ noChar
 char-past t p h = List·getD-eq-default t noChar h
 
+-- and no digit
 pub no-digit-past : (t : List ℕ) (p : ℕ) → length t ≤ p → isDigit (charAt t p) ≡ false
 unfolding isDigit
 no-digit-past t p h = rw (char-past t p h)
@@ -35,6 +36,7 @@ no-digit-past t p h = rw (char-past t p h)
 pub digit-least : (c : ℕ) → isDigit c ≡ true → code-0 ≤ c
 digit-least c e = ⊎-elim (λ d. d .0) (λ d. omega arith) (digit-cases c e)
 
+-- past `9` a digit is one of the letters
 pub letter-least : (c : ℕ) → isDigit c ≡ true → code-9 < c → (code-a ≤ c) × (c ≤ code-f)
 letter-least c e h = ⊎-elim (λ d. absurd (omega arith)) (λ d. d) (digit-cases c e)
 

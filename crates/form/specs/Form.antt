@@ -45,6 +45,7 @@ Room (f ∷ fs) (v ∷ vs) = (v < room (f .kind)) × Room fs vs
 
 -- ---- reading
 
+-- a number of a kind
 abbrev pub readKind : Kind → (t : List ℕ) → (p : ℕ) → Read ℕ
 readKind (upTo most) t p = readNumber most t p
 readKind (exactly w) t p = readDigits w w t p

@@ -1,3 +1,4 @@
+-- The definitions of `form`.
 pub mod Ascii
 pub mod Hex
 pub mod Read

@@ -23,9 +23,11 @@ passes-holds (split-at a q2 e low) t =
     (eqb→eq (split a .e) e (and-right (eqb (split a .q2) q2) (eqb (split a .e) e) first))
     (eqb→eq (split a .low) low (and-right (eqb (split a .q2) q2 && eqb (split a .e) e) (eqb (split a .low) low) t))
 
+-- the table has eleven entries
 pub eleven : length examples ≡ 11
 eleven = refl
 
+-- each of them holds
 pub examples-hold : (k : ℕ) → k < length examples → Holds (getD examples k (cost-at 0 0))
 unfolding passes cost words split
 examples-hold k h = passes-holds (getD examples k (cost-at 0 0)) (every-at passes examples tt k (cost-at 0 0) h)

@@ -27,17 +27,21 @@ cost-split a = refl
 
 -- ---- the split of a square is the one way to write it so
 
+-- splits with the same three parts are the same
 pub parts-path : (p r : Parts) → p .q2 ≡ r .q2 → p .e ≡ r .e → p .low ≡ r .low → p ≡ r
 parts-path p r q e l = λ i. record { q2 = q i; e = e i; low = l i }
 
+-- the split has a bit and a byte
 pub split-in-range : (a : ℕ) → InRange (split a)
 unfolding split
 split-in-range a = omega arith
 
+-- its parts stand for the square
 pub joined-split : (a : ℕ) → joined (split a) ≡ a * a
 unfolding joined split
 joined-split a = omega arith
 
+-- parts in range that stand for the square are these
 pub split-unique : (a : ℕ) (p : Parts) → InRange p → joined p ≡ a * a → p ≡ split a
 unfolding joined split
 split-unique a p s h = parts-path p (split a) (omega arith) (omega arith) (omega arith)

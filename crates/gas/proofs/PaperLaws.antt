@@ -11,6 +11,7 @@ pub ceiling-least : (n : ℕ) → (n ≤ 32 * ceiling n) × ((k : ℕ) → n ≤
 unfolding ceiling
 ceiling-least n = (omega arith, λ k h. omega arith)
 
+-- our rounding is the Paper's
 pub words-ceiling : (n : ℕ) → words n ≡ ceiling n
 unfolding words ceiling
 words-ceiling n = omega arith
@@ -21,6 +22,7 @@ unfolding words rangeEnd M ceiling
 words-paper s f zero = omega arith
 words-paper s f (suc l) = omega arith
 
+-- our C is the Paper's C_mem
 pub cost-paper : (a : ℕ) → cost a ≡ C-mem a
 unfolding cost C-mem
 cost-paper a = rw (pow-suc a 1, pow-suc a 0, pow-zero, one-mul)

@@ -4,6 +4,7 @@ use mathlib.Core.List.{List, [], _∷_}
 use mathlib.Core.Path.{_≡_}
 use Rattle.gas.specs.Gas.{words, cost, split}
 
+-- an entry of the table
 pub data Example : Type 0 where
   -- an end and its cost
   cost-at : ℕ → ℕ → Example

@@ -1,3 +1,4 @@
+-- The definitions of `gas`.
 pub mod Gas
 pub mod Paper
 pub mod Examples

@@ -11,6 +11,7 @@ use Rattle.number.specs.Cells.{encode, decode}
 use Rattle.number.specs.Num.{num, be, AllBytes}
 use Rattle.number.proofs.CellLaws.{encode-decode, length-encode}
 
+-- the four cells of a vector, stored one after the other, are its bytes
 pub four-cells : (t : List ℕ) (p : ℕ)
     → encode widths (decode widths t p) ≡ be 1 (num t p 1) ++ (be 3 (num t (p + 1) 3) ++ (be 4 (num t (p + 4) 4) ++ be 17 (num t (p + 8) 17)))
 unfolding encode decode

@@ -1,1 +1,2 @@
+-- The laws and theorems of `ground` that belong to no one function.
 pub mod AgreeLaws

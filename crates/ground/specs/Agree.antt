@@ -48,9 +48,11 @@ differencesAgree t p =
 abbrev pub widths : List ℕ
 widths = 1 ∷ 3 ∷ 4 ∷ 17 ∷ []
 
+-- the second cell is the number that stands once more in four bytes
 unfoldable pub cellsAgree : List ℕ → ℕ → Bool
 cellsAgree t p = eqb (num t (p + 1) 3) (num t (p + 25) 4)
 
+-- whether a vector of the kind says what is so
 abbrev pub agrees : Kind → List ℕ → ℕ → Bool
 agrees Costs t p = costsAgree t p
 agrees Splits t p = splitsAgree t p

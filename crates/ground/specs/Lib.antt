@@ -1,1 +1,2 @@
+-- The definitions of `ground`.
 pub mod Agree

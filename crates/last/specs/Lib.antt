@@ -1,2 +1,3 @@
+-- The definitions of `last`.
 pub mod Last
 pub mod Search

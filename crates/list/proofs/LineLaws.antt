@@ -40,6 +40,7 @@ pub line-chars : (f : Fields) → allChars (printLine f) ≡ true
 unfolding printLine
 line-chars f = form.print-chars lineFields lineEnd (values f) chars
 
+-- it has a character
 pub line-some : (f : Fields) → 1 ≤ length (printLine f)
 unfolding printLine printForm
 line-some f = omega arith

@@ -92,6 +92,7 @@ pub all-before : (is js : List Instruction) → beforeAll is (instructions js) �
 all-before [] js = refl
 all-before (i ∷ is) js = rw (all-before is js)
 
+-- before a refusal they are the refusal
 pub all-refused : (is : List Instruction) {n l q : ℕ} → beforeAll is (refusedIn n l q) ≡ refusedIn n l q
 all-refused [] = refl
 all-refused (i ∷ is) = rw (all-refused is)

@@ -102,6 +102,7 @@ pub made-next : (l q : ℕ) (d : spec.Decoded) {i : Instruction} → toldDecoded
 made-next l q (spec.decoded j) e = cc
 made-next l q (spec.refused n) e = clash cc
 
+-- a refusal of the fields is what comes next, without a place
 pub refused-next : (l q : ℕ) (d : spec.Decoded) {w : Refusal} → toldDecoded l d ≡ claim.Refused w → Refused w 0 ≡ toldNext l (decided q d)
 refused-next l q (spec.decoded j) e = clash cc
 refused-next l q (spec.refused n) e = cc

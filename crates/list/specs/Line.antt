@@ -40,9 +40,11 @@ at2Field = named (ascii " at2=") longDigits
 abbrev pub len2Field : Field
 len2Field = named (ascii " len2=") longDigits
 
+-- all of them in their order
 abbrev pub lineFields : List Field
 lineFields = cnField ∷ opField ∷ at1Field ∷ len1Field ∷ at2Field ∷ len2Field ∷ []
 
+-- what closes a line
 abbrev pub lineEnd : List ℕ
 lineEnd = ascii "\n"
 
@@ -50,6 +52,7 @@ lineEnd = ascii "\n"
 abbrev pub values : Fields → List ℕ
 values f = f .cn ∷ f .op ∷ f .at1 ∷ f .len1 ∷ f .at2 ∷ f .len2 ∷ []
 
+-- and back
 abbrev pub fieldsOf : List ℕ → Fields
 fieldsOf vs = record { cn = getD vs 0 0; op = getD vs 1 0; at1 = getD vs 2 0; len1 = getD vs 3 0; at2 = getD vs 4 0; len2 = getD vs 5 0 }
 
@@ -57,6 +60,7 @@ fieldsOf vs = record { cn = getD vs 0 0; op = getD vs 1 0; at1 = getD vs 2 0; le
 abbrev pub LineRoom : Fields → Type 0
 LineRoom f = Room lineFields (values f)
 
+-- the line of the fields
 unfoldable pub printLine : Fields → List ℕ
 printLine f = printForm lineFields lineEnd (values f)
 

@@ -1,1 +1,2 @@
+-- The definitions of `meets`.
 pub mod Groups

@@ -9,6 +9,7 @@ use Rattle.model.specs.Verdict.{Judgement, verdictBy, verdict}
 use Rattle.model.proofs.AdverseLaws.{witnesses-hold, witnesses-fit, witnesses-sized}
 use Rattle.model.proofs.RowsVerdict.{verdict-of-rows}
 
+-- the verdict on the bytes of an entry is its judgement
 pub witnesses-verdict : (k : ℕ) → k < length witnesses → verdict (bytesOf (entry k .shown)) ≡ verdictBy (entry k .judgement) (counts (entry k .shown))
 witnesses-verdict k h =
     let s = witnesses-sized k h in

@@ -41,6 +41,7 @@ claim-kept x y e = ap {B = Claim} (λ (l : List ℕ). record { context = record 
 state-kept : (x y : Cells) → kept x ≡ kept y → stateIn x ≡ stateIn y
 state-kept x y e = ap {B = State} (λ (l : List ℕ). record { mem = getD l 3 0; cost = getD l 5 0 }) e
 
+-- the state after it
 pub left-kept : (x y : Cells) → kept x ≡ kept y → stateOf x ≡ stateOf y
 left-kept x y e = ap {B = State} (λ (l : List ℕ). record { mem = getD l 4 0; cost = getD l 6 0 }) e
 

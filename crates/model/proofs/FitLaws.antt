@@ -54,10 +54,12 @@ pub apart-lt : (atLeast : Bool) {a b n : ℕ} → a < n → b < n → apart atLe
 unfolding apart
 apart-lt atLeast p q = pick-lt atLeast (omega arith) (omega arith)
 
+-- how far the greater end is above the bytes reached
 pub above-lt : (grown : Bool) {t m n : ℕ} → t < n → m < n → above grown t m < n
 unfolding above
 above-lt grown p q = pick-lt grown (omega arith) (omega arith)
 
+-- its last word, counted from 0
 pub last-word-lt : (grown : Bool) {t n : ℕ} → t < n → lastWord grown t < n
 unfolding lastWord
 last-word-lt grown h = pick-lt grown (omega arith) (omega arith)
@@ -66,6 +68,7 @@ last-byte-lt : (grown : Bool) (t : ℕ) → lastByte grown t < wordBytes
 unfolding lastByte
 last-byte-lt grown t = pick-lt grown (omega arith) (omega arith)
 
+-- Q2 of the square of its words
 pub square-lt : (grown : Bool) (t : ℕ) → t < bound → square grown t .q2 < 256 ^ 4
 unfolding square
 square-lt true t h = omega (arith, cost-split (words t), cost-lt t h)

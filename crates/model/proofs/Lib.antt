@@ -1,3 +1,4 @@
+-- The laws and theorems of `model` that belong to no one function.
 pub mod TestFacts
 pub mod TableOf
 pub mod StateLaws

@@ -29,6 +29,7 @@ implies-met false b h = refl
 pub if-equal-use : (m n : ℕ) (t : Bool) → implies (eqb m n) t ≡ true → m ≡ n → t ≡ true
 if-equal-use m n t h e = implies-use (eqb m n) t h (eq-eqb m n e)
 
+-- and it is met if that holds where they are
 pub if-equal-met : (m n : ℕ) (t : Bool) → (m ≡ n → t ≡ true) → implies (eqb m n) t ≡ true
 if-equal-met m n t h = implies-met (eqb m n) t (λ e. h (eqb-true m n e))
 
@@ -36,6 +37,7 @@ if-equal-met m n t h = implies-met (eqb m n) t (λ e. h (eqb-true m n e))
 pub if-unequal-use : (m n : ℕ) (t : Bool) → implies (not (eqb m n)) t ≡ true → m ≢ n → t ≡ true
 if-unequal-use m n t h d = implies-use (not (eqb m n)) t h (ap not (ne-eqb m n d))
 
+-- and it is met if that holds where they are not
 pub if-unequal-met : (m n : ℕ) (t : Bool) → (m ≢ n → t ≡ true) → implies (not (eqb m n)) t ≡ true
 if-unequal-met m n t h = implies-met (not (eqb m n)) t (λ e. h (eqb-false m n (not-true (eqb m n) e)))
 
@@ -86,6 +88,7 @@ all-at l h k = every-true (λ (t : Bool). t) true refl l h k
 pub zeros-at : (l : List ℕ) → zeros l ≡ true → (i : ℕ) → getD l i 0 ≡ 0
 zeros-at l h i = eqb-true (getD l i 0) 0 (every-true (λ v. eqb v 0) 0 refl l h i)
 
+-- it is a list of zeros
 pub zeros-are : (l : List ℕ) → zeros l ≡ true → l ≡ replicate (length l) 0
 zeros-are [] h = refl
 zeros-are (v ∷ vs) h = ap₂ {C = List ℕ} _∷_ (zeros-at (v ∷ vs) h 0) (zeros-are vs (both (eqb v 0) (zeros vs) h .1))
@@ -125,6 +128,7 @@ pub difference : (v a b : ℕ) → isDifference v a b ≡ true → v + b ≡ a
 unfolding isDifference
 difference v a b h = eqb-true (v + b) a h
 
+-- and the test passes where the sum is right
 pub difference-met : (v a b : ℕ) → v + b ≡ a → isDifference v a b ≡ true
 unfolding isDifference
 difference-met v a b e = eq-eqb (v + b) a e

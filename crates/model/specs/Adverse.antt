@@ -108,6 +108,7 @@ claim cn end1 end2 = record { context = record { cn = cn }; end1 = end1; end2 = 
 abbrev pub sample : List Claim
 sample = claim 1 32 0 ∷ claim 2 1 0 ∷ claim 1 705 0 ∷ claim 1 0 0 ∷ claim 2 0 64 ∷ claim 2 bound 0 ∷ []
 
+-- one or more for each tempting reading, and for each constraint one that breaks it alone
 abbrev pub witnesses : List Witness
 witnesses =
     witness sample [] meet

@@ -42,6 +42,7 @@ pub record Column : Type 0 where
   pub width : ℕ
   pub cell : Cells → ℕ
 
+-- a column by its width and its cell
 abbrev column : ℕ → (Cells → ℕ) → Column
 column w f = record { width = w; cell = f }
 
@@ -53,6 +54,7 @@ upToGas =
     ∷ column 1 (λ x. x .byte1) ∷ column 1 (λ x. x .byte2) ∷ column 17 (λ x. x .acc1) ∷ column 3 (λ x. x .acc2)
     ∷ column 3 (λ x. x .mem) ∷ column 3 (λ x. x .memn) ∷ column 4 (λ x. x .cost) ∷ column 4 (λ x. x .costn) ∷ column 4 (λ x. x .gas) ∷ []
 
+-- every one from COMP on
 abbrev pub fromComp : List Column
 fromComp =
     column 1 (λ x. x .comp) ∷ column 1 (λ x. x .dbyte) ∷ column 3 (λ x. x .dacc) ∷ column 3 (λ x. x .endmax) ∷ column 1 (λ x. x .flag)
@@ -69,9 +71,11 @@ columns = upToGas ++ fromComp
 abbrev pub cellsIn : List Column → Cells → List ℕ
 cellsIn cs x = map (λ (c : Column). c .cell x) cs
 
+-- their widths
 abbrev pub widths : List ℕ
 widths = map (λ (c : Column). c .width) columns
 
+-- the bytes of a row
 abbrev pub rowBytes : ℕ
 rowBytes = total widths
 

@@ -19,6 +19,7 @@ inLast = 2
 abbrev pub outLast : ℕ
 outLast = 16
 
+-- E, by OOOB
 unfoldable pub lastCt : ℕ → ℕ
 lastCt ooob = pick (eqb ooob 1) outLast inLast
 

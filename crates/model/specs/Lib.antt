@@ -1,3 +1,4 @@
+-- The definitions of `model`.
 pub mod Columns
 pub mod Tests
 pub mod State

@@ -60,6 +60,7 @@ judged first (suc i) = andRow (judged first i) i (first i)
 abbrev pub judgedRows : List Cells → Judgement
 judgedRows rows = judged (brokenAt (rowIn rows) (length rows)) (length rows)
 
+-- what is said of a byte string
 pub data Verdict : Type 0 where
   -- counts
   accepted : Counts → Verdict

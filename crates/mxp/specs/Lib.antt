@@ -1,1 +1,2 @@
+-- The definitions of `mxp`.
 pub mod Out

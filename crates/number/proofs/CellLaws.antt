@@ -9,6 +9,7 @@ use Rattle.number.specs.Cells.{total, encode, decode, Fit}
 use Rattle.number.specs.Num.{num, be, AllBytes}
 use Rattle.number.proofs.NumLaws.{length-be, num-at, be-num, num-lt}
 
+-- cells take the bytes of their widths
 pub length-encode : (ws vs : List ℕ) → length (encode ws vs) ≡ total ws
 unfolding encode
 length-encode [] vs = refl

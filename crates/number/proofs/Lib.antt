@@ -1,3 +1,4 @@
+-- The laws and theorems of `number` that belong to no one function.
 pub mod NumLaws
 pub mod DigitLaws
 pub mod CellLaws

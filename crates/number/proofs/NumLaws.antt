@@ -11,6 +11,7 @@ use lib.ListN.{length, take, drop, getD, length-append, length-drop, List·getD-
 use lib.Seq.{take-suc, getD-drop, getD-at, getD-append-add}
 use Rattle.number.specs.Num.{num, be, AllBytes}
 
+-- a number written in w bytes has w bytes
 pub length-be : (w v : ℕ) → length (be w v) ≡ w
 unfolding be
 length-be zero v = refl
@@ -36,6 +37,7 @@ num-shift xs ys p (suc w) =
 
 -- ---- reading what was written
 
+-- a number written in w bytes is read back, but for what has no room
 pub num-be : (w v : ℕ) → num (be w v) 0 w ≡ v % 256 ^ w
 unfolding num be
 num-be zero v = sym (mod-one v)
@@ -59,6 +61,7 @@ num-at xs ys w v h =
 
 -- ---- writing what was read
 
+-- bytes read as a number and written again are the bytes
 pub be-num : (l : List ℕ) (p w : ℕ) → AllBytes l → p + w ≤ length l → be w (num l p w) ≡ take w (drop p l)
 unfolding num be
 be-num l p zero bs h = refl
@@ -76,6 +79,7 @@ pub num-injective : (l k : List ℕ) (p q w : ℕ) → AllBytes l → AllBytes k
     → num l p w ≡ num k q w → take w (drop p l) ≡ take w (drop q k)
 num-injective l k p q w bl bk hl hk e = sym (be-num l p w bl hl) ∙ ap (be w) e ∙ be-num k q w bk hk
 
+-- a number of w bytes is below 256^w
 pub num-lt : (l : List ℕ) (p w : ℕ) → AllBytes l → p + w ≤ length l → num l p w < 256 ^ w
 unfolding num
 num-lt l p zero bs h = omega arith
@@ -95,6 +99,7 @@ be-bytes (suc w) v i h =
 
 -- ---- a number in two parts
 
+-- a number of v + w bytes is joined from one of v and one of w
 pub num-add : (l : List ℕ) (p v w : ℕ) → num l p (v + w) ≡ num l p v * 256 ^ w + num l (p + v) w
 unfolding num
 num-add l p v zero = rw (add-zero v) (omega arith)
@@ -103,6 +108,7 @@ num-add l p v (suc w) =
     let m : num l p v * 256 ^ w * 256 ≡ num l p v * (256 ^ w * 256) = mul-assoc (num l p v) (256 ^ w) 256 in
     rw (add-suc, ih, pow-suc, add-assoc) (omega arith)
 
+-- and written as the two
 pub be-add : (v w x y : ℕ) → y < 256 ^ w → be (v + w) (x * 256 ^ w + y) ≡ be v x ++ be w y
 unfolding be
 be-add v zero x y h =
@@ -116,6 +122,7 @@ be-add v (suc w) x y h =
     let ih : be (v + w) (x * 256 ^ w + y / 256) ≡ be v x ++ be w (y / 256) = be-add v w x (y / 256) (omega arith) in
     rw (add-suc, q, r, ih, append-assoc)
 
+-- a number is cut into the two
 pub be-cut : (v w n : ℕ) → be (v + w) n ≡ be v (n / 256 ^ w) ++ be w (n % 256 ^ w)
 be-cut v w n =
     ap (be (v + w)) (sym (div-add-mod' n (256 ^ w))) ∙ be-add v w (n / 256 ^ w) (n % 256 ^ w) (mod-lt n (one-le-pow w 256 (omega arith)))
@@ -125,6 +132,7 @@ pub be-one : (v : ℕ) → v < 256 → be 1 v ≡ v ∷ []
 unfolding be
 be-one v h = rw mod-eq-of-lt
 
+-- three bytes, as the writers make them
 pub be-three : (v : ℕ) → be 3 v ≡ v / 65536 % 256 ∷ v / 256 % 256 ∷ v % 256 ∷ []
 unfolding be
 be-three v =

@@ -37,10 +37,12 @@ module _ (m : ℕ) (x y : ℕ → ℕ) (bytes : ByteRows m x) (sums : SumsUp m x
 
 -- ---- and conversely
 
+-- all digits spell the number
 pub prefix-last : (m v : ℕ) → prefixAt m v m ≡ v
 unfolding prefixAt
 prefix-last m v = rw (sub-self, div-one)
 
+-- a digit is a byte
 pub digit-lt : (m v i : ℕ) → digitAt m v i < 256
 unfolding digitAt
 digit-lt m v i = omega arith
@@ -55,6 +57,7 @@ prefix-first : (m v : ℕ) → v < 256 ^ suc m → prefixAt m v 0 < 256
 unfolding prefixAt
 prefix-first m v h = div-lt-iff-lt-mul (one-le-pow (m - 0) 256 (omega arith)) .1 (rw sub-zero (omega arith))
 
+-- the digits of a number that has room sum up to it
 pub digits-sum-up : (m v : ℕ) → v < 256 ^ suc m → SumsUp m (digitAt m v) (prefixAt m v)
 unfolding digitAt
 digits-sum-up m v h = record { first = omega (arith, prefix-first m v h); next = λ i k. omega (arith, prefix-step m v i k) }
@@ -64,6 +67,7 @@ pub prefix-zero : (m i : ℕ) → prefixAt m 0 i ≡ 0
 unfolding prefixAt
 prefix-zero m i = zero-div (256 ^ (m - i))
 
+-- its digits are 0
 pub digit-zero : (m i : ℕ) → digitAt m 0 i ≡ 0
 unfolding digitAt
 digit-zero m i = rw prefix-zero

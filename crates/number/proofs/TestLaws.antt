@@ -13,25 +13,30 @@ same-test true false f g = sym (f refl)
 same-test false true f g = g refl
 same-test false false f g = refl
 
+-- two tests that pass together pass each
 pub both : (x y : Bool) → (x && y) ≡ true → (x ≡ true) × (y ≡ true)
 both true true e = (refl, refl)
 both true false e = (refl, e)
 both false true e = (e, refl)
 both false false e = (e, e)
 
+-- two that pass each pass together
 pub both-intro : (x y : Bool) → x ≡ true → y ≡ true → (x && y) ≡ true
 both-intro true y p q = q
 both-intro false y p q = p
 
+-- where one of two tests passes, the first or the second does
 pub either : (x y : Bool) → (x || y) ≡ true → (x ≡ true) ⊎ (y ≡ true)
 either true y e = inl refl
 either false y e = inr e
 
+-- the first is enough
 pub either-left : (x y : Bool) → x ≡ true → (x || y) ≡ true
 either-left true y e = refl
 either-left false true e = refl
 either-left false false e = e
 
+-- and so is the second
 pub either-right : (x y : Bool) → y ≡ true → (x || y) ≡ true
 either-right true y e = refl
 either-right false y e = e

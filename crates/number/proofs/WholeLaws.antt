@@ -155,14 +155,17 @@ shifted-fits x y h = omega arith
 pub minus-last : (x y n : ℕ) → n ≤ y → x * 2 ^ 64 + (y - n) ≡ x * 2 ^ 64 + y - n
 minus-last x y n h = omega arith
 
+-- with 1 borrowed from the part before
 pub minus-borrow : (x z y n : ℕ) → x ≡ z + 1 → y < n → n < 2 ^ 64 → z * 2 ^ 64 + (2 ^ 64 - 1 - (n - y) + 1) ≡ x * 2 ^ 64 + y - n
 minus-borrow x z y n e h k = omega arith
 
+-- 0 where there is nothing to borrow
 pub minus-all : (x y n : ℕ) → x ≡ 0 → y < n → 0 ≡ x * 2 ^ 64 + y - n
 minus-all x y n e h = omega arith
 
 -- ---- the bytes
 
+-- the bytes of a value are those of its three parts
 pub be-val : (a : Wide) → a .hi < 2 ^ 64 → a .lo < 2 ^ 64 → be 17 (val a) ≡ be 1 (a .top) ++ (be 8 (a .hi) ++ be 8 (a .lo))
 unfolding val
 be-val a h l =

@@ -1,3 +1,4 @@
+-- The definitions of `number`.
 pub mod Tests
 pub mod Num
 pub mod Digits

@@ -1,1 +1,2 @@
+-- The laws and theorems of `opcode` that belong to no one function.
 pub mod TableLaws

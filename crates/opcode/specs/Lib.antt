@@ -1,1 +1,2 @@
+-- The definitions of `opcode`.
 pub mod Opcodes

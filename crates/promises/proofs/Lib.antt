@@ -1,3 +1,4 @@
+-- The book of promises, crate by crate: no second answer meets the contract of a public function.
 pub mod NoSecond
 pub mod Number
 pub mod Long

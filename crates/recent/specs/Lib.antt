@@ -1,1 +1,2 @@
+-- The definitions of `recent`.
 pub mod Notes

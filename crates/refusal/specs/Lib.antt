@@ -1,1 +1,2 @@
+-- The definitions of `refusal`.
 pub mod Refusals

@@ -1,2 +1,3 @@
+-- The laws and theorems of `row` that belong to no one function.
 pub mod PlaceLaws
 pub mod RowLaws

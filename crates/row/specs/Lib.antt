@@ -1,1 +1,2 @@
+-- The definitions of `row`.
 pub mod Plain

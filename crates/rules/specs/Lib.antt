@@ -1,1 +1,2 @@
+-- The definitions of `rules`.
 pub mod First

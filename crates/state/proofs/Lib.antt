@@ -1,3 +1,4 @@
+-- The laws and theorems of `state` that belong to no one function.
 pub mod SearchLaws
 pub mod LookLaws
 pub mod AfterLaws

@@ -1,2 +1,3 @@
+-- The definitions of `state`.
 pub mod Plain
 pub mod Look

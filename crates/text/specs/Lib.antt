@@ -1,2 +1,3 @@
+-- The definitions of `text`.
 pub mod Decimal
 pub mod Line

@@ -1,2 +1,3 @@
+-- The definitions of `trace`.
 pub mod Asked
 pub mod Told

@@ -1,1 +1,2 @@
+-- The definitions of `verify`.
 pub mod Report

@@ -57,6 +57,7 @@ WalkerAt κ = T.the-row (body κ)
 abbrev pub WalkerOwns : Lft → Walker → Fml
 WalkerOwns κ w = WalkerAt κ .own w (T′.lowered w ∷ [])
 
+-- what was opened at its own
 abbrev pub OpenedOwns : Lft → Opened → Fml
 OpenedOwns κ o = O.the-row (body κ) .own o (O′.lowered o ∷ [])
 

@@ -1,3 +1,4 @@
+-- The laws and theorems of `walker` that belong to no one function.
 pub mod StepLaws
 pub mod Called
 pub mod Held

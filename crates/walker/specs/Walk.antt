@@ -31,6 +31,7 @@ pub record StartNumbers : Type 0 where
   pub line : ℕ
   pub next : ℕ
 
+-- those of a start
 abbrev pub startNumbers : Start → StartNumbers
 startNumbers s = record { refused = s .why .number; line = s .why .line; next = s .next }
 
@@ -77,5 +78,6 @@ pub record StepNumbers : Type 0 where
   pub bytes : ℕ
   pub next : ℕ
 
+-- those of a step from row i
 abbrev pub stepNumbers : (next : ℕ) → Stepped → StepNumbers
 stepNumbers i s = record { from = pick (eqb (length (s .part)) 0) 0 (i * rowBytes); bytes = length (s .part); next = s .next }

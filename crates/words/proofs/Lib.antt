@@ -1,2 +1,3 @@
+-- The laws and theorems of `words` that belong to no one function.
 pub mod SumLaws
 pub mod WordLaws

@@ -1,1 +1,2 @@
+-- The definitions of `writer`.
 pub mod Stores
