@@ -3,9 +3,7 @@ ghost use mathlib.Core.Path.{_≡_};
 ghost use Rattle.number.specs.Sums.{prefixAt, digitAt};
 ghost use Rattle.model.specs.Constraints.{inLast};
 ghost use Rattle.model.specs.Trace.{inRows};
-
-// The values of a byte.
-pub(crate) const BASE: u32 = 256;
+use number::BASE;
 
 // What the digits of v up to row i spell.
 pub(crate) fn prefix(v: u32, i: u8) -> u32

@@ -12,7 +12,6 @@ ghost use Rattle.row.specs.Plain.{HeadOf, BodyOf, TailOf, plain};
 ghost use Rattle.state.specs.Plain.{state};
 ghost use Rattle.claim.specs.Told.{plainClaim};
 ghost use Rattle.cycle.specs.Numbers.{MadeOf, withinRow};
-use crate::digits::BASE;
 use crate::digits::digit;
 use crate::digits::in_rows;
 use crate::digits::prefix;
@@ -22,6 +21,7 @@ use crate::growth::ends_of;
 use crate::growth::growth_of;
 use claim::claim::Claim;
 use model::IN_LAST;
+use number::FIRST_OF_FOUR;
 use number::wide::small;
 use row::cells::Body;
 use row::cells::Head;
@@ -29,9 +29,6 @@ use row::cells::Row;
 use row::cells::Tail;
 use state::State;
 use writer::put_row;
-
-// What the first byte of four counts.
-const FIRST_OF_FOUR: u32 = BASE * BASE * BASE;
 
 // What the rows of a cycle are made from.
 struct Made {

@@ -1,6 +1,6 @@
 -- What a vector of each kind says, in the first of its bytes, by the definitions of `number` and `gas`, and how many of a file's vectors are wrong.
 use Prim.Native.Nat.{ℕ, zero, suc, _+_, _*_, _-_, _/_, _%_, _^_}
-use mathlib.Core.Bool.{Bool, true, false, not, _&&_}
+use mathlib.Core.Bool.{Bool, not, _&&_}
 use mathlib.Core.List.{List, [], _∷_}
 use mathlib.Core.Path.{_≡_}
 use lib.Dec.{eqb, ltb}
@@ -9,12 +9,8 @@ use Rattle.gas.specs.Gas.{words, cost, split}
 use Rattle.ground.specs.declared.Kind.the-variants.{Costs, Splits, Orders, Steps, Differences, Cells}
 use Rattle.ground.specs.declared.Kind.{Kind}
 use Rattle.number.specs.Num.{num}
+use Rattle.number.specs.Tests.{bit}
 use Rattle.number.specs.Whole.{bound}
-
--- 1 for a test that holds, 0 for one that does not
-abbrev pub bit : Bool → ℕ
-bit true = 1
-bit false = 0
 
 -- end 4, its words 4, their cost 17
 unfoldable pub costsAgree : List ℕ → ℕ → Bool

@@ -15,7 +15,7 @@ use Rattle.number.specs.Cells.{total}
 use Rattle.number.specs.Num.{num}
 use Rattle.number.proofs.TestLaws.{both}
 use Rattle.model.specs.Columns.{Cells, emptyRow, widths, rowBytes, ofList}
-use Rattle.model.specs.Constraints.{inUse, k1, k2, k3, k4, k5, k6, k25, k26, constraintsBy, firstFailed}
+use Rattle.model.specs.Constraints.{inUse, k1, k2, k3, k4, k5, k6, k25, k26, constraintsBy, firstFailed, firstOr}
 use Rattle.model.specs.Steps.{stampMoves, ctMoves}
 use Rattle.row.specs.Plain.{cellsFrom, from}
 use Rattle.meets.specs.Groups.{Chosen, allAsked, zeroBytes, rowAsked}
@@ -54,7 +54,7 @@ from-zero l p h = ap ofList (cells-zero widths l p 0 rowBytes (each-zero l p row
 
 -- an empty row after an empty row meets all constraints
 empty-meets : (a b x : Cells) (nine : Bool) → x ≡ emptyRow → b .stamp ≡ 0 → firstFailed 1 (constraintsBy a b x false false nine (k25 x)) ≡ 0
-unfolding firstFailed k1 k2 k3 k4 k5 k6 k26 inUse stampMoves ctMoves
+unfolding firstOr k1 k2 k3 k4 k5 k6 k26 inUse stampMoves ctMoves
 empty-meets a b x nine e z = rw (e, z)
 
 -- by its bytes

@@ -12,7 +12,7 @@ use lib.ListN.{getD, drop}
 use Rattle.number.specs.Whole.{bound}
 use Rattle.number.proofs.TestLaws.{both}
 use Rattle.model.specs.Columns.{Cells}
-use Rattle.model.specs.Constraints.{inLast, outLast, inUse, kept, equal, stays, grows, k1, k2, k3, k4, k5, k6, k7, k8, k10, k11, k12, k13, k14, k15, k16, k17, k18, k19, k20, k21, k22, k23, k24, k25, k26, constraintsBy, firstFailed}
+use Rattle.model.specs.Constraints.{inLast, outLast, inUse, kept, equal, stays, grows, k1, k2, k3, k4, k5, k6, k7, k8, k10, k11, k12, k13, k14, k15, k16, k17, k18, k19, k20, k21, k22, k23, k24, k25, k26, constraintsBy, firstFailed, firstOr}
 use Rattle.model.specs.Tests.{pick, implies, isDifference}
 use Rattle.model.proofs.ConstraintFacts.{says8}
 use Rattle.model.proofs.StepLaws.{same-stamp}
@@ -144,7 +144,7 @@ module _ (a b x : Cells) (nine : Bool) (f : follows b x ≡ true) (c : carries b
 
   -- an instruction in bounds, where the row before it meets 15 to 17
   all-within : x .ooob ≡ 0 → Chosen b → (withinAsked a b x && nine) ≡ true → firstFailed 1 (constraintsBy a b x false false nine (k25 x)) ≡ 0
-  unfolding firstFailed k2 k26
+  unfolding firstOr k2 k26
   all-within o chosen h =
       let m = common in
       let (w, h9) = both (withinAsked a b x) nine h in
@@ -189,7 +189,7 @@ module _ (a b x : Cells) (nine : Bool) (f : follows b x ≡ true) (c : carries b
 
   -- one out of bounds
   all-beyond : x .ooob ≢ 0 → (beyondHolds x && nine) ≡ true → firstFailed 1 (constraintsBy a b x false false nine (k25 x)) ≡ 0
-  unfolding firstFailed k2 k26
+  unfolding firstOr k2 k26
   all-beyond o h =
       let m = common in
       let one : x .ooob ≡ 1 = past-zero (m .one) o in

@@ -18,9 +18,9 @@ use Rattle.gas.specs.Gas.{words, cost, split, joined}
 use Rattle.number.proofs.TestLaws.{is-true}
 use Rattle.model.specs.Adverse.{BreaksOnly, Witness, Says, sample, witnesses, noEntry, entry, nextRows}
 use Rattle.model.specs.Columns.{Cells, columns, cellsIn, widths, rowIn, rowAt, table, bytesOf}
-use Rattle.model.specs.Constraints.{lastCt, inUse, equal, stays, grows, constraints, constraint, firstFailed, firstBroken}
-use Rattle.model.specs.Constraints.{k1, k2, k3, k4, k5, k6, k7, k8, k9, k10, k11, k12, k13}
-use Rattle.model.specs.Constraints.{k14, k15, k16, k17, k18, k19, k20, k21, k22, k23, k24, k25, k26}
+use Rattle.model.specs.Constraints.{lastCt, inUse, equal, stays, grows, constraints, constraint, firstOr, firstBroken}
+use Rattle.model.specs.Constraints.{k1, k2, k3, k4, k5, k6, k7, k8, k9, k10, k11, k12, k13, firstOr}
+use Rattle.model.specs.Constraints.{k14, k15, k16, k17, k18, k19, k20, k21, k22, k23, k24, k25, k26, firstOr}
 use Rattle.model.specs.Cycles.{Looked, cyclesFrom, starts, count, emptyRows, counts, look, lastState, step}
 use Rattle.model.specs.Promises.{constraintCount, Holds}
 use Rattle.model.specs.State.{sameContext, put}
@@ -140,7 +140,7 @@ record Computed : Type 0 where
 
 computed : Computed
 unfolding same names fits rowFits othersMet judgedRight hasSize allFit find isFound brokenAlone
-    prefixAt digitAt words cost split joined table lastCt inUse equal stays grows firstFailed firstBroken
+    prefixAt digitAt words cost split joined table lastCt inUse equal stays grows firstOr firstBroken
     k1 k2 k3 k4 k5 k6 k7 k8 k9 k10 k11 k12 k13 k14 k15 k16 k17 k18 k19 k20 k21 k22 k23 k24 k25 k26
     sameContext put stampMoves ctMoves isDifference sumsUp inBounds lastOf apart above lastWord lastByte square reach inRow beyondEnd outRow
     rowOf cycleOf after cyclesOf trace passed before brokenAt judged

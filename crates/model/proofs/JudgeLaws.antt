@@ -7,7 +7,7 @@ use mathlib.Core.Path.{_≡_, refl, _∙_, ap}
 use native.Mathlib.Nat.{eq-or-lt-of-le, le-of-suc-le-suc}
 use native.Mathlib.Omega.{arith}
 use lib.ListN.{length, getD}
-use Rattle.model.specs.Constraints.{firstFailed}
+use Rattle.model.specs.Constraints.{firstFailed, firstOr}
 use Rattle.model.specs.Verdict.{Judgement, meet, break, andRow, judged}
 
 -- ---- the first test of a list that fails
@@ -19,7 +19,7 @@ pub record FirstFails (ts : List Bool) (m : ℕ) : Type 0 where
 
 -- the number 0 says that all pass
 pub zero-pass : (k : ℕ) (ts : List Bool) → firstFailed (suc k) ts ≡ 0 → (j : ℕ) → getD ts j true ≡ true
-unfolding firstFailed
+unfolding firstOr
 zero-pass k [] e j = refl
 zero-pass k (true ∷ ts) e zero = refl
 zero-pass k (true ∷ ts) e (suc j) = zero-pass (suc k) ts e j
@@ -27,7 +27,7 @@ zero-pass k (false ∷ ts) e j = cc
 
 -- where all pass, it is 0
 pub pass-zero : (k : ℕ) (ts : List Bool) → ((j : ℕ) → j < length ts → getD ts j true ≡ true) → firstFailed k ts ≡ 0
-unfolding firstFailed
+unfolding firstOr
 pass-zero k [] p = refl
 pass-zero k (true ∷ ts) p = pass-zero (suc k) ts (λ j h. p (suc j) (omega arith))
 pass-zero k (false ∷ ts) p = cc (p 0 (omega arith))
@@ -41,7 +41,7 @@ first-cons ts m f = record { fails = f .fails; lower = lower }
 
 -- another number says, counted from k, which is the first that fails
 pub some-fails : (k v : ℕ) (ts : List Bool) → firstFailed k ts ≡ v → 1 ≤ v → (m : ℕ) × (v ≡ k + m) × FirstFails ts m
-unfolding firstFailed
+unfolding firstOr
 some-fails k v [] e h = absurd (omega arith)
 some-fails k v (true ∷ ts) e h =
     let (m, q, f) = some-fails (suc k) v ts e h in
@@ -50,7 +50,7 @@ some-fails k v (false ∷ ts) e h = (0, omega arith, record { fails = refl; lowe
 
 -- where one is the first that fails, it is the number
 pub fails-some : (k m : ℕ) (ts : List Bool) → FirstFails ts m → firstFailed k ts ≡ k + m
-unfolding firstFailed
+unfolding firstOr
 fails-some k m [] f = cc (f .fails)
 fails-some k zero (true ∷ ts) f = cc (f .fails)
 fails-some k (suc m) (true ∷ ts) f =

@@ -11,7 +11,7 @@ use Rattle.number.specs.Num.{num, be, AllBytes}
 use Rattle.number.specs.Tables.{every}
 use Rattle.number.proofs.TableLaws.{every-at}
 use Rattle.model.specs.Columns.{rowAt, rowsOf, table, bytesOf}
-use Rattle.model.specs.Constraints.{firstBroken, firstFailed, inUse, k1, k2, k3, k4, k5, k6, k26}
+use Rattle.model.specs.Constraints.{firstBroken, inUse, k1, k2, k3, k4, k5, k6, k26, firstOr}
 use Rattle.model.specs.Cycles.{Claim, Counts, counts, emptyRows, cyclesFrom, count, starts}
 use Rattle.model.specs.Promises.{ValidClaim, Fits, WellSized}
 use Rattle.model.specs.Steps.{ctMoves}
@@ -35,13 +35,13 @@ abbrev oneEmpty : Counts
 oneEmpty = record { instructions = 0; oob = 0; empty = 1 }
 
 accepted-row : verdict (row 0) ≡ accepted oneEmpty
-unfolding verdict judged brokenAt firstBroken firstFailed inUse k1 k2 k3 k4 k5 k6 k26 ctMoves
+unfolding verdict judged brokenAt firstBroken firstOr inUse k1 k2 k3 k4 k5 k6 k26 ctMoves
     rowAt decode num rowsOf table counts emptyRows cyclesFrom count starts
 accepted-row = refl
 
 -- constraint 2: row 0 has STAMP 0
 broken-row : verdict (row 1) ≡ broken 0 2
-unfolding verdict judged brokenAt firstBroken firstFailed k1 k2 rowAt decode num
+unfolding verdict judged brokenAt firstBroken firstOr k1 k2 rowAt decode num
 broken-row = refl
 
 module _ (f : Checker) (e : ExactChecker f) where

@@ -212,10 +212,14 @@ unfoldable pub constraint : ℕ → View → Bool
 constraint zero v = true
 constraint (suc k) v = getD (constraints v) k true
 
+-- the number of the first test that fails, counted from k; where none does, what is found after them
+unfoldable pub firstOr : ℕ → List Bool → (rest : ℕ) → ℕ
+firstOr k [] rest = rest
+firstOr k (t ∷ ts) rest = pick t (firstOr (suc k) ts rest) k
+
 -- the number of the first test that fails, counted from k; 0 if none does
-unfoldable pub firstFailed : ℕ → List Bool → ℕ
-firstFailed k [] = 0
-firstFailed k (t ∷ ts) = pick t (firstFailed (suc k) ts) k
+abbrev pub firstFailed : ℕ → List Bool → ℕ
+firstFailed k ts = firstOr k ts 0
 
 -- the first broken constraint of a row, 0 if it meets all
 unfoldable pub firstBroken : View → ℕ

@@ -14,9 +14,13 @@ pub record Cycle : Type 0 where
   pub first : ℕ
   pub row : Cells
 
--- how many rows it has
+-- how many rows the cycle of a row has: 3, 17 if its OOOB is 1
+abbrev pub cycleRows : Cells → ℕ
+cycleRows x = suc (lastCt (x .ooob))
+
+-- how many rows a cycle has
 abbrev pub rowsIn : Cycle → ℕ
-rowsIn c = suc (lastCt (c .row .ooob))
+rowsIn c = cycleRows (c .row)
 
 -- a row with which a cycle starts
 unfoldable pub starts : Cells → Bool
@@ -125,5 +129,5 @@ pub record Stepped : Type 0 where
 -- empty part and no move.
 unfoldable pub step : List ℕ → ℕ → Stepped
 step l i =
-    let n : ℕ = suc (lastCt (rowAt l i .ooob)) in
+    let n : ℕ = cycleRows (rowAt l i) in
     pick (leb (i + n) (length l / rowBytes)) (record { part = part l i n; next = i + n }) (record { part = []; next = i })

@@ -4,15 +4,11 @@ use mathlib.Core.Bool.{Bool, not, _||_}
 use mathlib.Core.List.{List}
 use lib.Dec.{eqb}
 use Rattle.number.specs.Tables.{every}
-pub use Rattle.number.specs.Tests.{pick}
+pub use Rattle.number.specs.Tests.{pick, bit}
 
 -- the second test has to pass where the first does
 abbrev pub implies : Bool → Bool → Bool
 implies a b = not a || b
-
--- 1 for a test that passes, else 0
-abbrev pub bit : Bool → ℕ
-bit b = pick b 1 0
 
 -- all of the numbers are 0
 abbrev pub zeros : List ℕ → Bool

@@ -44,7 +44,7 @@ pub fn less(a: Wide, b: Wide) -> bool
         | ((a.top == b.top) & (a.hi == b.hi) & (a.lo < b.lo))
 }
 
-// 256 times p, plus the byte b, but for p's first byte, which no longer has room.
+// 256 times p, plus the byte b, but for p's first byte, for which there is no room.
 pub fn push(p: Wide, b: u8) -> Wide
     ensures { λ r. ⌜ p .top * 256 ^ 17 + val r ≡ 256 * val p + b ⌝ }
 {

@@ -1,5 +1,6 @@
--- A refusal by its number.
+-- A refusal by its number. 9 and 10, of a trace that is none, are the model's: its verdict gives them.
 use Prim.Native.Nat.{ℕ}
+pub use Rattle.model.specs.Verdict.{badLength, tooManyRows}
 use Rattle.refusal.specs.declared.Refusal.{Refusal}
 
 -- the refusals of a list before it is read: it is too long, or the empty rows are 0

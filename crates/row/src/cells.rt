@@ -54,6 +54,33 @@ pub struct Row {
     pub tail: Tail,
 }
 
+// MEM to FLAG, and EBYTE to AUX2, with every cell 0.
+const EMPTY_BODY: Body = Body {
+    mem: 0,
+    memn: 0,
+    cost: 0,
+    costn: 0,
+    gas: 0,
+    comp: 0,
+    dbyte: 0,
+    dacc: 0,
+    endmax: 0,
+    flag: 0,
+};
+
+const EMPTY_TAIL: Tail = Tail {
+    ebyte: 0,
+    eacc: 0,
+    q1: 0,
+    q1byte: 0,
+    q1acc: 0,
+    q2: 0,
+    q2byte: 0,
+    q2acc: 0,
+    aux1: 0,
+    aux2: 0,
+};
+
 // The row whose every cell is 0: what stands before the first row of a trace.
 pub fn empty_row() -> Row
     ensures { λ r. ⌜ plain r ≡ emptyRow ⌝ }
@@ -72,29 +99,7 @@ pub fn empty_row() -> Row
             acc1: none,
             acc2: 0,
         },
-        body: Body {
-            mem: 0,
-            memn: 0,
-            cost: 0,
-            costn: 0,
-            gas: 0,
-            comp: 0,
-            dbyte: 0,
-            dacc: 0,
-            endmax: 0,
-            flag: 0,
-        },
-        tail: Tail {
-            ebyte: 0,
-            eacc: 0,
-            q1: 0,
-            q1byte: 0,
-            q1acc: 0,
-            q2: 0,
-            q2byte: 0,
-            q2acc: 0,
-            aux1: 0,
-            aux2: 0,
-        },
+        body: EMPTY_BODY,
+        tail: EMPTY_TAIL,
     }
 }

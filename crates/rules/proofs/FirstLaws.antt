@@ -5,9 +5,9 @@ use mathlib.Core.List.{List, [], _∷_, _++_}
 use mathlib.Core.Path.{_≡_, refl, ap, _∙_}
 use lib.Dec.{eqb}
 use Rattle.model.specs.Columns.{Cells}
-use Rattle.model.specs.Constraints.{k1, k2, k3, k4, k5, k6, k7, k8, k10, k18, k19, k20, k21, k22, inLast, inUse, used, constraintsBy, firstFailed}
+use Rattle.model.specs.Constraints.{k1, k2, k3, k4, k5, k6, k7, k8, k10, k18, k19, k20, k21, k22, inLast, inUse, used, constraintsBy, firstFailed, firstOr}
 use Rattle.model.specs.Tests.{pick, implies}
-use Rattle.rules.specs.First.{firstOr, only, lastRowTests, withinTests, beyondTests, usedTests}
+use Rattle.rules.specs.First.{only, lastRowTests, withinTests, beyondTests, usedTests}
 
 -- one test more in front of those whose first failing one is known
 pub link : (n : ℕ) {r x y : ℕ} {t k : Bool} → r ≡ pick t x n → t ≡ k → x ≡ y → r ≡ pick k y n
@@ -53,7 +53,7 @@ after n false h = refl
 pub nine-matters-not : (a b x : Cells) (first last nine other twentyFive : Bool)
     → (k3 first b x ≡ true → k4 b x ≡ true → inUse x ≡ true → nine ≡ other)
     → firstFailed 1 (constraintsBy a b x first last nine twentyFive) ≡ firstFailed 1 (constraintsBy a b x first last other twentyFive)
-unfolding firstFailed
+unfolding firstOr
 nine-matters-not a b x first last nine other twentyFive h =
     after 1 (k1 x) (λ _.
     after 2 (k2 first x) (λ _.

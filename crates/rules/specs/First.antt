@@ -1,16 +1,10 @@
 -- The 26 constraints in the groups that document 01 puts them in, for the search of the first one that fails.
-use Prim.Native.Nat.{ℕ, suc}
 use mathlib.Core.Bool.{Bool}
 use mathlib.Core.List.{List, [], _∷_, _++_, map}
 use lib.Dec.{eqb}
 use Rattle.model.specs.Columns.{Cells}
 use Rattle.model.specs.Constraints.{k7, k8, k10, k11, k12, k13, k14, k15, k16, k17, k18, k19, k20, k21, k22, k23, k24, inUse}
-use Rattle.model.specs.Tests.{pick, implies}
-
--- the number of the first test that fails, counted from k; where none does, what is found after them
-unfoldable pub firstOr : ℕ → List Bool → (rest : ℕ) → ℕ
-firstOr k [] rest = rest
-firstOr k (t ∷ ts) rest = pick t (firstOr (suc k) ts rest) k
+use Rattle.model.specs.Tests.{implies}
 
 -- tests that are made only where a condition holds
 unfoldable pub only : Bool → List Bool → List Bool

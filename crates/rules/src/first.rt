@@ -1,9 +1,9 @@
 // The first constraint that a row breaks. The search goes from the last constraint to the first, in the groups of document 01: each function
 // takes what was found after its own constraints, and hands that on where they do not apply.
 ghost use mathlib.Core.Path.{_≡_};
-ghost use Rattle.model.specs.Constraints.{constraintsBy, firstFailed};
+ghost use Rattle.model.specs.Constraints.{constraintsBy, firstFailed, firstOr};
 ghost use Rattle.row.specs.Plain.{plain};
-ghost use Rattle.rules.specs.First.{firstOr, lastRowTests, withinTests, beyondTests, usedTests};
+ghost use Rattle.rules.specs.First.{lastRowTests, withinTests, beyondTests, usedTests};
 use crate::beyond::rule24;
 use crate::cycle::rule7;
 use crate::cycle::rule8;

@@ -7,7 +7,7 @@ use native.Mathlib.Omega.{arith}
 use lib.ListN.{length, length-append, List·getD-append}
 use lib.Seq.{append-snoc, getD-append-add}
 use Rattle.model.specs.Columns.{Cells, emptyRow, rowIn}
-use Rattle.model.specs.Cycles.{Claim}
+use Rattle.model.specs.Cycles.{cycleRows, Claim}
 use Rattle.model.specs.State.{Context, State, sameContext, contextOf, fresh, put}
 use Rattle.model.specs.Tests.{pick}
 use Rattle.model.specs.Trace.{lastOf, rowOf, cycleOf, afterClaims, cyclesOf, trace}
@@ -15,7 +15,7 @@ use Rattle.model.proofs.JoinLaws.{length-cycle, after-snoc, trace-snoc}
 use Rattle.model.proofs.ReadBack.{is-row, last-of-row}
 use Rattle.model.proofs.TableOf.{getD-table}
 use Rattle.model.proofs.TestFacts.{pick-under}
-use Rattle.state.specs.Look.{cycleRows, foundAt, oneMore, searchBack, answered, lookBack}
+use Rattle.state.specs.Look.{foundAt, oneMore, searchBack, answered, lookBack}
 use Rattle.state.specs.declared.look.Search.{Search}
 use Rattle.state.proofs.SearchLaws.{search-whole}
 

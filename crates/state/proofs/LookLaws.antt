@@ -10,7 +10,7 @@ use borrow.Author.Tests.{eqb-true, ne-eqb}
 use lib.Dec.{eqb·suc-zero}
 use Rattle.model.specs.Columns.{Cells, table}
 use Rattle.model.specs.Constraints.{lastCt, inUse, kept, k2, k3, k4, constraint}
-use Rattle.model.specs.Cycles.{Claim, Looked, starts, cyclesFrom, cycles, look, lastState}
+use Rattle.model.specs.Cycles.{cycleRows, Claim, Looked, starts, cyclesFrom, cycles, look, lastState}
 use Rattle.model.specs.Promises.{AllHold}
 use Rattle.model.specs.State.{Context, sameContext, contextOf, stateOf, start}
 use Rattle.model.specs.Steps.{stampMoves, ctMoves}
@@ -23,7 +23,7 @@ use Rattle.model.proofs.RowFacts.{in-use, of-used}
 use Rattle.model.proofs.StepLaws.{stamp-after-empty, stamp-inside, stamp-over, ct-inside, same-stamp}
 use Rattle.model.proofs.TableOf.{table-snoc}
 use Rattle.model.proofs.TestFacts.{if-unequal-use}
-use Rattle.state.specs.Look.{cycleRows, foundAt, oneMore, searchBack, answered, lookBack}
+use Rattle.state.specs.Look.{foundAt, oneMore, searchBack, answered, lookBack}
 use Rattle.state.specs.declared.look.Found.the-variants.{Nothing}
 use Rattle.state.specs.declared.look.Search.{Search}
 use Rattle.state.proofs.SearchLaws.{search-whole}

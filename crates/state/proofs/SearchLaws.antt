@@ -7,12 +7,13 @@ use native.Mathlib.Nat.{add-zero, sub-zero, zero-add, le-of-suc-le-suc}
 use native.Mathlib.Omega.{arith}
 use borrow.Author.Tests.{leb-true, le-leb, lt-leb}
 use lib.Dec.{leb, leb·zero, leb·suc-zero, leb·suc-suc}
+use Rattle.model.specs.Cycles.{cycleRows}
 use Rattle.model.specs.Columns.{Cells, rowBytes}
 use Rattle.model.specs.State.{Context, State, sameContext, contextOf}
 use Rattle.model.specs.Tests.{pick}
 use Rattle.model.specs.Verdict.{rowBefore}
 use Rattle.model.proofs.TestFacts.{pick-under}
-use Rattle.state.specs.Look.{cycleRows, foundAt, noneIn, oneMore, searchBack, foundIn, stateFound, lookBack}
+use Rattle.state.specs.Look.{foundAt, noneIn, oneMore, searchBack, foundIn, stateFound, lookBack}
 use Rattle.state.specs.declared.look.Found.{Found}
 use Rattle.state.specs.declared.look.Found.the-variants.{At, Nothing}
 use Rattle.state.specs.declared.look.Search.{Search}

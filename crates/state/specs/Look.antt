@@ -2,18 +2,13 @@
 use Prim.Native.Nat.{ℕ, zero, suc, _+_, _-_, _*_, _≤_}
 use lib.Dec.{leb}
 use Rattle.model.specs.Columns.{Cells, rowBytes}
-use Rattle.model.specs.Constraints.{lastCt}
-use Rattle.model.specs.Cycles.{Looked}
+use Rattle.model.specs.Cycles.{Looked, cycleRows}
 use Rattle.model.specs.State.{Context, State, sameContext, contextOf, stateOf, start}
 use Rattle.model.specs.Tests.{pick}
 use Rattle.model.specs.Verdict.{rowBefore}
 use Rattle.state.specs.declared.look.Found.{Found}
 use Rattle.state.specs.declared.look.Found.the-variants.{At, Nothing}
 use Rattle.state.specs.declared.look.Search.{Search}
-
--- how many rows the cycle of this row has: 17 if its OOOB is 1, else 3
-abbrev pub cycleRows : Cells → ℕ
-cycleRows x = suc (lastCt (x .ooob))
 
 -- row i was found, in the first cycle that was looked at
 abbrev pub foundAt : ℕ → Search

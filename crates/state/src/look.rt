@@ -3,9 +3,10 @@
 ghost use mathlib.Core.Path.{_≡_};
 ghost use Prim.Native.Nat.{_+_, _*_, _≤_};
 ghost use lib.ListN.{length};
+ghost use Rattle.model.specs.Cycles.{cycleRows};
 ghost use Rattle.model.specs.Columns.{rowBytes, rowAt};
 ghost use Rattle.model.specs.State.{sameContext, contextOf, stateOf};
-ghost use Rattle.state.specs.Look.{cycleRows, searchBack, foundIn, stateFound, lookBack};
+ghost use Rattle.state.specs.Look.{searchBack, foundIn, stateFound, lookBack};
 ghost use Rattle.state.specs.Plain.{context, state, looked};
 use crate::Context;
 use crate::State;

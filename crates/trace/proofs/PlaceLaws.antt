@@ -11,7 +11,7 @@ use lib.ListN.{length, take, drop}
 use Rattle.number.specs.Num.{AllBytes}
 use Rattle.number.proofs.TestLaws.{clash}
 use Rattle.model.specs.Columns.{rowBytes, rowAt, rowsOf}
-use Rattle.model.specs.Cycles.{Cycle, counts, instruction, part, isInstruction, nextRow}
+use Rattle.model.specs.Cycles.{cycleRows, Cycle, counts, instruction, part, isInstruction, nextRow}
 use Rattle.model.specs.Promises.{Accepted, claimsIn}
 use Rattle.model.specs.Verdict as model
 use Rattle.model.specs.Verdict.{Verdict, verdict}
@@ -19,7 +19,6 @@ use Rattle.model.proofs.ExactlyOne.{accepted-by}
 use Rattle.model.proofs.InstructionLaws.{instructions-counted, is-instruction, no-instruction, instruction-at, next-after, next-inside}
 use Rattle.refusal.specs.Refusals.{lineless, notAccepted, noInstruction}
 use Rattle.refusal.specs.declared.Refusal.{Refusal}
-use Rattle.state.specs.Look.{cycleRows}
 use Rattle.trace.specs.Asked.{Answer, given, refused, whereIs}
 use Rattle.trace.specs.Told.{toldPlace}
 use Rattle.trace.specs.declared.place.Place.the-variants.{At, Refused}

@@ -8,9 +8,8 @@ use borrow.Author.Tests.{le-leb, lt-leb, leb-true, ne-eqb}
 use lib.Dec.{leb, eqb}
 use lib.ListN.{length, length-take, length-drop}
 use Rattle.model.specs.Columns.{rowBytes, rowAt}
-use Rattle.model.specs.Cycles.{part, Stepped, step}
+use Rattle.model.specs.Cycles.{cycleRows, part, Stepped, step}
 use Rattle.model.specs.Tests.{pick}
-use Rattle.state.specs.Look.{cycleRows}
 use Rattle.walker.specs.Walk.{stepNumbers}
 
 module _ (l : List ℕ) (i : ℕ) where

@@ -27,7 +27,7 @@ use number::wide::in_bounds;
 const LIFT: u64 = AUX_LIFT as u64;
 
 // What the first of four bytes counts, 256^3.
-const FIRST_OF_FOUR: u64 = BASE * BASE * BASE;
+const FIRST_OF_FOUR: u64 = number::FIRST_OF_FOUR as u64;
 
 // ENDMAX is END1 if COMP=1, else END2.
 pub fn is_chosen(comp: u8, end1: Wide, end2: Wide, endmax: u32) -> bool

@@ -16,8 +16,8 @@ use number::wide::small;
 pub mod amounts;
 pub mod steps;
 
-// How many values a byte has.
-pub const BASE: u64 = 256;
+// How many values a byte has, with room for sums.
+pub(crate) const BASE: u64 = number::BASE as u64;
 
 // A number of 32 bits, with room for sums.
 pub fn wide(x: u32) -> u64

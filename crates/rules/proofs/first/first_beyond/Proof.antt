@@ -1,7 +1,7 @@
 -- `rules::first::first_beyond` meets its contract. Where OOOB is not 1 no test is made (`shut`); else `link` puts 24 in front of 25.
 use borrow.Author.Tests.{ne-eqb, eq-eqb}
 use borrow.Author.Needs.{needs}
-use Rattle.rules.specs.First.{firstOr}
+use Rattle.model.specs.Constraints.{firstOr}
 use Rattle.words.proofs.WordLaws.{through}
 use Rattle.rules.proofs.FirstLaws.{link, shut, opened}
 use Rattle.rules.proofs.first.first_beyond.Statement.{statement}

@@ -2,8 +2,8 @@
 -- pN is the place where the number from N on is known.
 use mathlib.Core.Path.{refl}
 use borrow.Author.Needs.{needs}
-use Rattle.model.specs.Constraints.{firstFailed}
-use Rattle.rules.specs.First.{firstOr, only, usedTests}
+use Rattle.model.specs.Constraints.{firstOr}
+use Rattle.rules.specs.First.{only, usedTests}
 use Rattle.rules.proofs.FirstLaws.{link, link-all}
 use Rattle.rules.proofs.first.first_broken.Statement.{statement}
 use Rattle.rules.proofs.first.first_broken.Tie as tie
@@ -54,7 +54,7 @@ pick-requires-7 : tie.Need-pick-requires-7
 pick-requires-7 c κs = search needs
 
 returns : tie.Need-returns
-unfolding firstOr only firstFailed
+unfolding firstOr only
 returns c =
     let p2 = c .before .before in
     let p3 = p2 .before .before in

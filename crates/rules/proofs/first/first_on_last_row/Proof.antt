@@ -3,7 +3,7 @@
 use mathlib.Core.Path.{refl}
 use borrow.Author.Tests.{ne-eqb}
 use borrow.Author.Needs.{needs}
-use Rattle.rules.specs.First.{firstOr}
+use Rattle.model.specs.Constraints.{firstOr}
 use Rattle.rules.proofs.FirstLaws.{link, last-row-shut}
 use Rattle.rules.proofs.first.first_on_last_row.Statement.{statement}
 use Rattle.rules.proofs.first.first_on_last_row.Tie as tie

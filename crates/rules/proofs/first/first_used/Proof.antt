@@ -5,8 +5,8 @@ use mathlib.Core.Path.{_≡_, refl, ap}
 use borrow.Author.Tests.{ne-eqb, eq-eqb}
 use borrow.Author.Needs.{needs}
 use Rattle.row.specs.Plain.{plain}
-use Rattle.rules.specs.First.{firstOr, withinTests}
-use Rattle.model.specs.Constraints.{inUse}
+use Rattle.rules.specs.First.{withinTests}
+use Rattle.model.specs.Constraints.{inUse, firstOr}
 use Rattle.words.proofs.WordLaws.{through}
 use Rattle.rules.proofs.FirstLaws.{link, link-all, shut, used-opened}
 use Rattle.rules.proofs.first.first_used.Statement.{statement}

@@ -3,7 +3,8 @@
 use mathlib.Core.Path.{refl}
 use borrow.Author.Tests.{ne-eqb, eq-eqb}
 use borrow.Author.Needs.{needs}
-use Rattle.rules.specs.First.{firstOr, lastRowTests}
+use Rattle.model.specs.Constraints.{firstOr}
+use Rattle.rules.specs.First.{lastRowTests}
 use Rattle.words.proofs.WordLaws.{through}
 use Rattle.rules.proofs.FirstLaws.{link, link-all, shut, opened}
 use Rattle.rules.proofs.first.first_within.Statement.{statement}
