@@ -17,6 +17,8 @@ use count::starts_cycle;
 use filler::Filled;
 use filler::fill;
 use gas::Bytes;
+use gas::Gas;
+use gas::Words;
 use gas::words_of;
 use model::ROW_BYTES;
 use row::cells::Row;
@@ -50,10 +52,10 @@ struct Lines {
 }
 
 // The size that is printed for a row: what MSIZE would give after the instruction.
-fn printed_size(x: Row) -> u64
-    ensures { λ r. ⌜ r ≡ printedSize (plain x) ⌝ }
+fn printed_size(x: Row) -> Bytes
+    ensures { λ r. ⌜ r .0 ≡ printedSize (plain x) ⌝ }
 {
-    x.body.memn as u64
+    Bytes(x.body.memn)
 }
 
 // The fields of a line up to oob.
@@ -68,14 +70,14 @@ fn put_mark(out: &mut [u8; REPORT_BYTES], at: usize, stamp: u64, cn: u64, oob: u
 }
 
 // The fields of a line from size on, and its newline.
-fn put_charge(out: &mut [u8; REPORT_BYTES], at: usize, size: u64, words: u64, gas: u64) -> usize
+fn put_charge(out: &mut [u8; REPORT_BYTES], at: usize, size: Bytes, words: Words, gas: Gas) -> usize
     requires { ⌜ at + maxCharge ≤ maxReport ⌝ }
-    ensures { λ r. ⌜ Put (now (out .entry)) at (chargeText size words gas) (now (out .exit)) r ⌝ }
+    ensures { λ r. ⌜ Put (now (out .entry)) at (chargeText (size .0) (words .0) (gas .0)) (now (out .exit)) r ⌝ }
     ensures { λ r. ⌜ r ≤ at + maxCharge ⌝ }
 {
-    let one = put_field(out, at, b" size=", size);
-    let two = put_field(out, one, b" words=", words);
-    let three = put_field(out, two, b" gas=", gas);
+    let one = put_field(out, at, b" size=", size.0 as u64);
+    let two = put_field(out, one, b" words=", words.0 as u64);
+    let three = put_field(out, two, b" gas=", gas.0);
     put_bytes(out, three, b"\n")
 }
 
@@ -94,7 +96,7 @@ fn put_line(out: &mut [u8; REPORT_BYTES], at: usize, x: Row) -> usize
         x.head.cn as u64,
         x.head.ooob as u64,
     );
-    put_charge(out, next, size, words.0 as u64, x.body.gas as u64)
+    put_charge(out, next, size, words, Gas(x.body.gas as u64))
 }
 
 // The line of a row that starts a cycle, and nothing for any other.

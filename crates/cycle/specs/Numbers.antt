@@ -28,19 +28,19 @@ grown s t = ltb (s .mem) t
 
 -- the ends of a claim and how they compare
 pub record EndsOf (c : model.Claim) (e : Ends) : Type 0 where
-  pub end1 : e .end1 ≡ c .end1
-  pub end2 : e .end2 ≡ c .end2
+  pub end1 : e .end1 .0 ≡ c .end1
+  pub end2 : e .end2 .0 ≡ c .end2
   pub comp : e .comp ≡ bit (atLeast c)
   pub top : e .top .0 ≡ top c
-  pub apart : e .apart ≡ apart (atLeast c) (c .end1) (c .end2)
+  pub apart : e .apart .0 ≡ apart (atLeast c) (c .end1) (c .end2)
 
 -- what the end t makes of the state s
 pub record GrowthOf (s : State) (t : ℕ) (g : Growth) : Type 0 where
   pub flag : g .flag ≡ bit (grown s t)
-  pub above : g .above ≡ above (grown s t) t (s .mem)
+  pub above : g .above .0 ≡ above (grown s t) t (s .mem)
   pub after : state (g .after) ≡ reach (grown s t) t s
   pub gas : g .gas .0 ≡ reach (grown s t) t s .cost - s .cost
-  pub word : g .word ≡ lastWord (grown s t) t
+  pub word : g .word .0 ≡ lastWord (grown s t) t
   pub byte : g .byte ≡ lastByte (grown s t) t
   pub lifted : g .lifted ≡ pick (grown s t) (lastByte (grown s t) t + auxLift) 0
   pub square : parts (g .square) ≡ square (grown s t) t

@@ -13,6 +13,7 @@ use gas::Bytes;
 use gas::Gas;
 use gas::Split;
 use gas::WORD_BYTES;
+use gas::Words;
 use gas::cost_of;
 use gas::split_of;
 use gas::words_of;
@@ -21,23 +22,27 @@ use state::State;
 
 // The ends, whether the first is at least the second (1, else 0), the greater one, and how far they are apart.
 pub(crate) struct Ends {
-    pub end1: u32,
-    pub end2: u32,
+    pub end1: Bytes,
+    pub end2: Bytes,
     pub comp: u8,
     pub top: Bytes,
-    pub apart: u32,
+    pub apart: Bytes,
 }
 
-// Whether the greater end is above the bytes reached before (1, else 0) and by how much, the state that it leaves and what that costs, its last word and
-// the place of its last byte there, that place lifted, and the square of its words.
+// What the greater end makes of the state. From `gas` on all is 0 where that end is not above the bytes reached before.
 pub(crate) struct Growth {
+    // Whether it is above them (1, else 0), and how far the two are apart.
     pub flag: u8,
-    pub above: u32,
+    pub above: Bytes,
+    // The state that it leaves, and what that costs.
     pub after: State,
     pub gas: Gas,
-    pub word: u32,
+    // The number of its last word, Q1: how many words are before that one.
+    pub word: Words,
+    // Two cells of AUX1: the place of its last byte in that word, and that place lifted.
     pub byte: u8,
     pub lifted: u8,
+    // The square of its words.
     pub square: Split,
 }
 
@@ -46,23 +51,23 @@ pub(crate) fn ends_of(c: Claim) -> Ends
     requires { ⌜ inBounds (plainClaim c) ≡ true ⌝ }
     ensures { λ r. ⌜ EndsOf (plainClaim c) r ⌝ }
 {
-    let end1 = c.end1.lo as u32;
-    let end2 = c.end2.lo as u32;
-    if end2 <= end1 {
+    let end1 = Bytes(c.end1.lo as u32);
+    let end2 = Bytes(c.end2.lo as u32);
+    if end2.0 <= end1.0 {
         Ends {
             end1,
             end2,
             comp: 1,
-            top: Bytes(end1),
-            apart: end1 - end2,
+            top: end1,
+            apart: Bytes(end1.0 - end2.0),
         }
     } else {
-        let apart = end2 - end1 - 1;
+        let apart = Bytes(end2.0 - end1.0 - 1);
         Ends {
             end1,
             end2,
             comp: 0,
-            top: Bytes(end2),
+            top: end2,
             apart,
         }
     }
@@ -75,14 +80,13 @@ fn grow(s: State, top: Bytes) -> Growth
     requires { ⌜ top .0 < bound ⌝ }
     ensures { λ r. ⌜ GrowthOf (state s) (top .0) r ⌝ }
 {
-    let end = top.0;
     let words = words_of(top);
-    let word = words.0 - 1;
+    let word = Words(words.0 - 1);
     let cost = cost_of(words);
-    let byte = ((end - 1) % WORD_BYTES) as u8;
+    let byte = ((top.0 - 1) % WORD_BYTES) as u8;
     Growth {
         flag: 1,
-        above: end - s.mem.0 - 1,
+        above: Bytes(top.0 - s.mem.0 - 1),
         after: State { mem: top, cost },
         gas: Gas(cost.0 - s.cost.0),
         word,
@@ -103,10 +107,10 @@ pub(crate) fn growth_of(s: State, top: Bytes) -> Growth
     } else {
         Growth {
             flag: 0,
-            above: s.mem.0 - top.0,
+            above: Bytes(s.mem.0 - top.0),
             after: s,
             gas: Gas(0),
-            word: 0,
+            word: Words(0),
             byte: 0,
             lifted: 0,
             square: Split {

@@ -72,10 +72,10 @@ fn head_of(m: Made, i: u8) -> Head
         ct: i,
         end1,
         end2,
-        byte1: digit(e.end1, i),
-        byte2: digit(e.end2, i),
-        acc1: small(prefix(e.end1, i) as u64),
-        acc2: prefix(e.end2, i),
+        byte1: digit(e.end1.0, i),
+        byte2: digit(e.end2.0, i),
+        acc1: small(prefix(e.end1.0, i) as u64),
+        acc2: prefix(e.end2.0, i),
     }
 }
 
@@ -92,8 +92,8 @@ fn body_of(m: Made, i: u8) -> Body
         costn: g.after.cost.0 as u32,
         gas: g.gas.0 as u32,
         comp: e.comp,
-        dbyte: digit(e.apart, i),
-        dacc: prefix(e.apart, i),
+        dbyte: digit(e.apart.0, i),
+        dacc: prefix(e.apart.0, i),
         endmax: e.top.0,
         flag: g.flag,
     }
@@ -108,11 +108,11 @@ fn tail_of(m: Made, i: u8) -> Tail
     let low = q2 % FIRST_OF_FOUR;
     let high = (q2 / FIRST_OF_FOUR) as u8;
     Tail {
-        ebyte: digit(g.above, i),
-        eacc: prefix(g.above, i),
-        q1: g.word,
-        q1byte: digit(g.word, i),
-        q1acc: prefix(g.word, i),
+        ebyte: digit(g.above.0, i),
+        eacc: prefix(g.above.0, i),
+        q1: g.word.0,
+        q1byte: digit(g.word.0, i),
+        q1acc: prefix(g.word.0, i),
         q2,
         q2byte: digit(low, i),
         q2acc: prefix(low, i),

@@ -9,14 +9,14 @@ put-bytes-requires : tie.Need-put-bytes-requires
 put-bytes-requires c κs =
     let third = c .before .before in
     let second = third .before .before .before in
-    let first = second .before .before .before in
+    let first = second .before .before .before .before in
     omega (arith, first .put-field .ensures .1, second .put-field2 .ensures .1, third .put-field3 .ensures .1)
 
 returns : tie.Need-returns
 returns c =
     let third = c .before .before .before in
     let second = third .before .before .before in
-    let first = second .before .before .before in
+    let first = second .before .before .before .before in
     let two = put-then (first .put-field .ensures .0) (second .put-field2 .ensures .0) in (
       put-then (put-then two (third .put-field3 .ensures .0)) (c .put-bytes .ensures),
       omega (arith, first .put-field .ensures .1, second .put-field2 .ensures .1, third .put-field3 .ensures .1, c .put-bytes .ensures .after),
@@ -27,7 +27,9 @@ put-charge-spec =
     tie.close
     (tie.spec
     (λ c. search needs)
+    (λ c. search needs)
     (λ c κs. search needs)
+    (λ c. search needs)
     (λ c. search needs)
     (λ c κs. search needs)
     (λ c. search needs)

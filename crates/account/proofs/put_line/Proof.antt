@@ -10,12 +10,12 @@ put-mark-requires c κs = omega arith
 
 put-charge-requires : tie.Need-put-charge-requires
 put-charge-requires c κs =
-    let mark = c .before .before .before in
+    let mark = c .before .before in
     omega (arith, mark .put-mark .ensures .1)
 
 returns : tie.Need-returns
 returns c =
-    let mark = c .before .before .before .before in
+    let mark = c .before .before .before in
     let words = mark .before .before .before .before .before in
     let charge = rw (words .before .printed-size .ensures, words .words-of .ensures) at (c .put-charge .ensures .0) in
     (put-then (mark .put-mark .ensures .0) charge, omega (arith, mark .put-mark .ensures .1, c .put-charge .ensures .1))
@@ -30,7 +30,6 @@ put-line-spec =
     (λ c. search needs)
     (λ c. search needs)
     put-mark-requires
-    (λ c. search needs)
     (λ c. search needs)
     put-charge-requires
     returns)

@@ -9,26 +9,29 @@ use Rattle.cycle.proofs.MadeLaws.{ends-low}
 use Rattle.cycle.proofs.growth.ends_of.Statement.{statement}
 use Rattle.cycle.proofs.growth.ends_of.Tie as tie
 
-cast-end1 : tie.Need-cast-end1
-cast-end1 c =
+cast-t5 : tie.Need-cast-t5
+cast-t5 c =
     let start = c .before in
     omega (arith, ends-low (start .args .c) (start .pre))
 
-cast-end2 : tie.Need-cast-end2
-cast-end2 c =
+cast-t5-2 : tie.Need-cast-t5-2
+cast-t5-2 c =
     let start = c .before .before in
     omega (arith, ends-low (start .args .c) (start .pre))
 
-sub-apart : tie.Need-sub-apart
-sub-apart c = omega arith
+sub-t8 : tie.Need-sub-t8
+sub-t8 c = omega arith
 
-sub-apart-2 : tie.Need-sub-apart-2
-sub-apart-2 c = omega arith
+sub-t10 : tie.Need-sub-t10
+sub-t10 c = omega arith
+
+sub-t11 : tie.Need-sub-t11
+sub-t11 c = omega arith
 
 returns : tie.Need-returns
 unfolding apart
 returns c =
-    let start = c .before .before .before in
+    let start = c .before .before .before .before .before .before .before in
     let x = start .args .c in
     let low = ends-low x (start .pre) in
     let least = le-leb (val (x .end2)) (val (x .end1)) (omega (arith, low)) in
@@ -43,7 +46,7 @@ returns c =
 returns-2 : tie.Need-returns-2
 unfolding apart
 returns-2 c =
-    let start = c .before .before .before in
+    let start = c .before .before .before .before .before .before .before in
     let x = start .args .c in
     let low = ends-low x (start .pre) in
     let less = lt-leb (val (x .end2)) (val (x .end1)) (omega (arith, low)) in
@@ -56,4 +59,4 @@ returns-2 c =
     }
 
 pub ends-of-spec : {M : Type 1} → statement M
-ends-of-spec = tie.close (tie.spec cast-end1 cast-end2 sub-apart sub-apart-2 returns returns-2)
+ends-of-spec = tie.close (tie.spec cast-t5 cast-t5-2 sub-t8 sub-t10 sub-t11 returns returns-2)

@@ -14,28 +14,29 @@ use Rattle.cycle.proofs.growth.grow.Tie as tie
 words-of-requires : tie.Need-words-of-requires
 words-of-requires c κs = search needs
 
-sub-word : tie.Need-sub-word
+-- the words less one
+sub-byte : tie.Need-sub-byte
 unfolding words
-sub-word c = omega arith
+sub-byte c = omega arith
 
 cost-of-requires : tie.Need-cost-of-requires
 cost-of-requires c κs = search needs
 
-sub-byte : tie.Need-sub-byte
-sub-byte c = search needs
+sub-byte-2 : tie.Need-sub-byte-2
+sub-byte-2 c = search needs
 
 cast-byte : tie.Need-cast-byte
 cast-byte c = search needs
 
+sub-t7 : tie.Need-sub-t7
+sub-t7 c = search needs
+
 sub-t8 : tie.Need-sub-t8
 sub-t8 c = search needs
 
-sub-t9 : tie.Need-sub-t9
-sub-t9 c = search needs
-
 sub-t11 : tie.Need-sub-t11
 sub-t11 c =
-    let paid = c .before .before .before in
+    let paid = c .before .before .before .before .before in
     let sized = paid .before .before in
     let start = sized .before in
     let more = paid-more {a = start .args .s .mem .0} {b = start .args .top .0} (omega arith) in
@@ -50,7 +51,7 @@ split-of-requires c κs = search needs
 returns : tie.Need-returns
 unfolding model.above model.reach model.lastWord model.lastByte model.square words
 returns c =
-    let paid = c .before .before .before .before in
+    let paid = c .before .before .before .before .before .before in
     let sized = paid .before .before in
     let start = sized .before in
     let a = start .args in
@@ -73,12 +74,12 @@ grow-spec =
     tie.close
     (tie.spec
     words-of-requires
-    sub-word
-    cost-of-requires
     sub-byte
+    cost-of-requires
+    sub-byte-2
     cast-byte
+    sub-t7
     sub-t8
-    sub-t9
     sub-t11
     add-t13
     split-of-requires
