@@ -24,12 +24,11 @@ use recent::recall;
 use row::cells::Row;
 use row::cells::empty_row;
 use row::place;
-use row::read::cn_at;
 use row::read::read_row;
 use rules::beyond::rule25;
 use rules::cycle::rule9;
 use rules::first::first_broken;
-use state::Context;
+use state::look::context_at;
 
 // The answer to constraint 9 for row i: it is asked where a cycle starts. There are so many cycles before it.
 fn keeps_state(t: &[u8], notes: &[u32; SLOTS], i: usize, cycles: usize) -> bool
@@ -40,7 +39,7 @@ fn keeps_state(t: &[u8], notes: &[u32; SLOTS], i: usize, cycles: usize) -> bool
     let x = i * ROW_BYTES;
     let ct = u8_at(t, x + place::CT);
     if is_start(u32_at(t, x + place::STAMP), ct) {
-        let own = Context { cn: cn_at(t, i) };
+        let own = context_at(t, i);
         let before = recall(t, notes, i, cycles, own);
         rule9(
             before,
@@ -115,7 +114,7 @@ fn note_row(t: &[u8], i: usize, stamp: u32, notes: &mut [u32; SLOTS])
     ensures { λ _. ⌜ Notes (now (notes .exit)) (rowAt (now (t .entry))) (suc i) ⌝ }
 {
     if stamp != 0 {
-        note(notes, Context { cn: cn_at(t, i) }, i);
+        note(notes, context_at(t, i), i);
     }
 }
 

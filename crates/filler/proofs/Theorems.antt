@@ -11,7 +11,7 @@ use Rattle.model.specs.Columns.{Cells, rowBytes, rowAt, rowsOf, bytesOf}
 use Rattle.model.specs.Cycles.{Claim, instruction, instructionClaim}
 use Rattle.model.specs.Promises.{Fits, countIn, countOut, countsOf, claimsIn, Carries}
 use Rattle.model.specs.Trace.{lastOf, trace, traceBytes}
-use Rattle.model.specs.Verdict.{maxRows, accepted, verdict}
+use Rattle.model.specs.Verdict.{maxRows, fullCount, accepted, verdict}
 use Rattle.model.proofs.ExactlyOne.{trace-accepted, trace-carries, exactly-one}
 use Rattle.model.proofs.JoinLaws.{full-trace}
 use Rattle.model.proofs.RowBytes.{length-bytes}
@@ -135,9 +135,9 @@ fill-of-lines {fs} {is} d widths short empty room f h =
 
 -- 21,845 in-bounds instructions and one empty row fill 65,536 rows; one more is refusal 7
 pub full-fill : (t : List ℕ) (is : List Instruction) (room : ℕ) → length t ≤ maxList → readList 1 t ≡ instructions is → countOut (map claimOf is) ≡ 0
-    → (countIn (map claimOf is) ≡ 21845 → maxRows * rowBytes ≤ room
+    → (countIn (map claimOf is) ≡ fullCount → maxRows * rowBytes ≤ room
     → (outcome t 1 room ≡ written (trace 1 (map claimOf is))) × (length (trace 1 (map claimOf is)) ≡ maxRows))
-    × (21845 < countIn (map claimOf is) → outcome t 1 room ≡ refused fillTooLong 0)
+    × (fullCount < countIn (map claimOf is) → outcome t 1 room ≡ refused fillTooLong 0)
 full-fill t is room short e none =
     let full = full-trace (map claimOf is) none in
     let order = fill-in-order t 1 room in (

@@ -24,6 +24,7 @@ use Rattle.claim.proofs.ClaimLaws.{line-valid}
 use Rattle.list.specs.Line.{LineRoom, printLine, readLine}
 use Rattle.list.specs.List as list
 use Rattle.list.specs.List.{Next, decided, before, nextOf, nextLine, Listed, instructions, refusedIn, listBy, listFrom, readList, beforeAll, LinesRoom, printLines}
+use Rattle.list.specs.Told.{toldNext, nextNumbers}
 use Rattle.list.proofs.LineLaws.{line-chars, line-some, read-printed, print-read, line-inside}
 
 -- ---- one line
@@ -137,6 +138,11 @@ pub first-refused : {fs : List Fields} {is : List Instruction} → Decodes fs is
     → nextLine t (p + length (printLines fs)) ≡ list.refused n q → listFrom (length fs + suc k) t p l ≡ refusedIn n (l + length fs) q
 unfolding listFrom
 first-refused {is = is} d room k t p l st e = rw (lines-first d room (suc k) t p l st, listFrom, e, all-refused is)
+
+-- what `next_line` answers to a refused line, in document 01's numbers
+pub refused-numbers : (t : List ℕ) (at l : ℕ) {n q : ℕ} → nextLine t at ≡ list.refused n q
+    → nextNumbers (toldNext l (nextLine t at)) ≡ record { refused = n; line = l; at = q }
+refused-numbers t at l e = rw e
 
 -- ---- a list is lines
 

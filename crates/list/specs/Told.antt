@@ -43,3 +43,15 @@ abbrev pub toldNext : (line : ℕ) → spec.Next → Next
 toldNext line spec.end = End
 toldNext line (spec.one i next) = One (toldInstruction i) next
 toldNext line (spec.refused n at) = Refused (inLine n line) at
+
+-- the numbers of a refusal, and the place that goes with it
+pub record NextNumbers : Type 0 where
+  pub refused : ℕ
+  pub line : ℕ
+  pub at : ℕ
+
+-- 3 to 6 give the line; all other result fields are 0
+abbrev pub nextNumbers : Next → NextNumbers
+nextNumbers End = record { refused = 0; line = 0; at = 0 }
+nextNumbers (One i next) = record { refused = 0; line = 0; at = 0 }
+nextNumbers (Refused r at) = record { refused = r .number; line = r .line; at = at }

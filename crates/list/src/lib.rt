@@ -11,7 +11,7 @@ use refusal::Refusal;
 
 pub mod line;
 
-// What stands in a list at a place.
+// What stands in a list at a place. Document 01's numbers are `nextNumbers` of specs/Told.antt.
 pub enum Next {
     // Nothing: the list ends.
     End,

@@ -14,7 +14,7 @@ use Rattle.model.specs.Promises.{countIn, countOut}
 use Rattle.model.specs.State.{Context, State, fresh}
 use Rattle.model.specs.Tests.{pick}
 use Rattle.model.specs.Trace.{inBounds, lastOf, rowOf, cycleOf, afterClaim, afterClaims, cycleAfter, cyclesOf, trace, traceBytes}
-use Rattle.model.specs.Verdict.{maxRows}
+use Rattle.model.specs.Verdict.{maxRows, fullCount}
 use Rattle.model.proofs.RowBytes.{length-bytes, bytes-append, bytes-take}
 use Rattle.model.proofs.TableOf.{length-table}
 
@@ -51,7 +51,7 @@ rows-of-trace n cs = rw (length-trace, length-cycles 1 fresh cs)
 
 -- 21,845 in-bounds instructions and one empty row fill a trace, and one more does not fit
 pub full-trace : (cs : List Claim) → countOut cs ≡ 0
-    → ((countIn cs ≡ 21845) → length (trace 1 cs) ≡ maxRows) × ((21845 < countIn cs) → maxRows < length (trace 1 cs))
+    → ((countIn cs ≡ fullCount) → length (trace 1 cs) ≡ maxRows) × ((fullCount < countIn cs) → maxRows < length (trace 1 cs))
 full-trace cs e = (λ h. omega (arith, rows-of-trace 1 cs), λ h. omega (arith, rows-of-trace 1 cs))
 
 -- ---- joined

@@ -1,5 +1,5 @@
 -- No program of the wrong kinds is exact: against each kind an example that the kernel computes.
-use Prim.Native.Nat.{ℕ, _^_, _<_}
+use Prim.Native.Nat.{ℕ, _-_, _^_, _<_}
 use mathlib.Core.List.{List, [], _∷_}
 use mathlib.Core.Logic.{_≢_}
 use mathlib.Core.Path.{_≡_, refl, _∙_, ap}
@@ -23,7 +23,7 @@ use Rattle.model.specs.Wrong.{Checker, ExactChecker, AcceptsAll, Rejects
 
 -- the bytes of one row, of which all but the first are 0
 abbrev row : ℕ → List ℕ
-row b = b ∷ replicate 113 0
+row b = b ∷ replicate (rowBytes - 1) 0
 
 row-bytes : (b : ℕ) → T (every (λ (v : ℕ). ltb v 256) (row b)) → AllBytes (row b)
 row-bytes b t i h = ltb→lt (getD (row b) i 0) 256 (every-at (λ (v : ℕ). ltb v 256) (row b) t i 0 h)

@@ -73,6 +73,10 @@ pub data Verdict : Type 0 where
 abbrev pub maxRows : ℕ
 maxRows = 65536
 
+-- how many in-bounds instructions fill a trace behind one empty row
+abbrev pub fullCount : ℕ
+fullCount = 21845
+
 -- 9: trace length 0 or not a multiple of 114; 10: more than 65,536 rows
 abbrev pub badLength : ℕ
 badLength = 9

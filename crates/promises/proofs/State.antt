@@ -9,6 +9,8 @@ use Rattle.state.proofs.context_of.Reads as context-of
 use Rattle.state.proofs.same_context.Reads as same-context
 use Rattle.state.proofs.start_state.Reads as start-state
 use Rattle.state.proofs.look.cycle_rows_at.Reads as cycle-rows-at
+use Rattle.state.proofs.look.context_at.Reads as context-at
+use Rattle.state.proofs.look.has_context.Reads as has-context
 use Rattle.state.proofs.look.state_at.Reads as state-at
 use Rattle.state.proofs.look.search_back.Reads as search-back
 use Rattle.state.proofs.look.state_found.Reads as state-found
@@ -34,6 +36,12 @@ one-start-state = no-second (λ a. codeState model.start) (λ κ a v e p. ap cod
 -- what is found in the rows of a trace
 pub one-cycle-rows-at : NoSecond cycle-rows-at.Post (ref given) answer
 one-cycle-rows-at = equation (λ a b. refl)
+
+pub one-context-at : NoSecond context-at.Post (ref given) answer
+one-context-at = no-second _ (λ κ a v e p. ap codeContext p) (λ a b. refl)
+
+pub one-has-context : NoSecond has-context.Post (ref given) answer
+one-has-context = equation (λ a b. refl)
 
 pub one-state-at : NoSecond state-at.Post (ref given) answer
 one-state-at = no-second _ (λ κ a v e p. ap codeState p) (λ a b. refl)

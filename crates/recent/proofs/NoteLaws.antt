@@ -6,7 +6,7 @@ use mathlib.Core.Logic.{_≢_}
 use mathlib.Core.Path.{_≡_, refl, sym, _∙_, ap}
 use native.Mathlib.Nat.{add-suc, add-zero, le-step, lt-suc-self}
 use native.Mathlib.Omega.{arith}
-use borrow.Author.Tests.{eqb-true, eqb-false, eq-eqb, ne-eqb}
+use borrow.Author.Tests.{eqb-true, eqb-false, ne-eqb}
 use lib.Dec.{eqb}
 use lib.ListN.{getD, set, replicate, length-set, length-replicate, getD-replicate}
 use lib.Seq.{getD-set-same, getD-set-other}
@@ -119,16 +119,14 @@ module _ (r : ℕ → Cells) (x : Context) (s : State) where
   shown-none k e = rw e
 
   -- the noted row has the context
-  pub shown-own : (k : ℕ) → k ≢ 0 → r (k - 1) .cn ≡ x .cn → shown r x k s ≡ stateOf (r (k - 1))
-  unfolding sameContext
+  pub shown-own : (k : ℕ) → k ≢ 0 → sameContext (contextOf (r (k - 1))) x ≡ true → shown r x k s ≡ stateOf (r (k - 1))
   shown-own zero some e = absurd (some refl)
-  shown-own (suc j) some e = rw (less-one j, eq-eqb (r j .cn) (x .cn) (rw (less-one j) at e))
+  shown-own (suc j) some e = rw (less-one j, rw (less-one j) at e)
 
   -- it has another
-  pub shown-other : (k : ℕ) → k ≢ 0 → r (k - 1) .cn ≢ x .cn → shown r x k s ≡ s
-  unfolding sameContext
+  pub shown-other : (k : ℕ) → k ≢ 0 → sameContext (contextOf (r (k - 1))) x ≡ false → shown r x k s ≡ s
   shown-other zero some e = absurd (some refl)
-  shown-other (suc j) some e = rw (ne-eqb (r j .cn) (x .cn) (rw (less-one j) at e))
+  shown-other (suc j) some e = rw (rw (less-one j) at e)
 
 -- ---- the state before a row
 

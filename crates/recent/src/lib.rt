@@ -7,9 +7,9 @@ ghost use Rattle.model.specs.Columns.{rowBytes, rowAt};
 ghost use Rattle.model.specs.Verdict.{maxRows};
 ghost use Rattle.state.specs.Plain.{context, state};
 ghost use Rattle.recent.specs.Notes.{slotOf, Notes, recalled};
-use row::read::cn_at;
 use state::Context;
 use state::State;
+use state::look::has_context;
 use state::look::state_at;
 use state::look::state_before;
 use state::start_state;
@@ -46,7 +46,7 @@ pub fn recall(t: &[u8], notes: &[u32; SLOTS], row: usize, cycles: usize, x: Cont
         return start_state();
     }
     let last = noted - 1;
-    if cn_at(t, last) == x.cn {
+    if has_context(t, last, x) {
         return state_at(t, last);
     }
     let looked = state_before(t, row, cycles, x);

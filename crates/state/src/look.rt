@@ -51,12 +51,20 @@ pub fn cycle_rows_at(t: &[u8], i: usize) -> usize
     }
 }
 
+// The context of row i.
+pub fn context_at(t: &[u8], i: usize) -> Context
+    requires { ⌜ (i + 1) * rowBytes ≤ length (now t) ⌝ }
+    ensures { λ r. ⌜ context r ≡ contextOf (rowAt (now (t .entry)) i) ⌝ }
+{
+    Context { cn: cn_at(t, i) }
+}
+
 // Whether row i has the context.
-fn has_context(t: &[u8], i: usize, x: Context) -> bool
+pub fn has_context(t: &[u8], i: usize, x: Context) -> bool
     requires { ⌜ (i + 1) * rowBytes ≤ length (now t) ⌝ }
     ensures { λ r. ⌜ r ≡ sameContext (contextOf (rowAt (now (t .entry)) i)) (context x) ⌝ }
 {
-    same_context(Context { cn: cn_at(t, i) }, x)
+    same_context(context_at(t, i), x)
 }
 
 // The state that row i leaves.

@@ -3,10 +3,11 @@ use Prim.Native.Nat.{ℕ, _+_, _-_, _≤_, _<_}
 use mathlib.Core.List.{List, map}
 use lib.ListN.{length, getD}
 use Rattle.number.specs.Digits.{digits}
+use Rattle.form.specs.Hex.{code-0}
 
 -- the code of a digit from 0 to 9
 abbrev pub digit : ℕ → ℕ
-digit d = 48 + d
+digit d = code-0 + d
 
 -- what the code of a digit counts
 abbrev pub digitOf : ℕ → ℕ

@@ -11,10 +11,10 @@ use count::Counts;
 use text::put_bytes;
 use text::put_field;
 
-// The most bytes of a trace that `verify` takes, and the bytes that it reads: more, so that a longer input is seen to be longer.
+// The most bytes of a trace that `verify` takes, and the bytes that it reads: one more, so that a longer input is seen to be longer.
 const VERIFY_BYTES: usize = 65436;
 
-const INPUT_BYTES: usize = 65536;
+const INPUT_BYTES: usize = VERIFY_BYTES + 1;
 
 // Room for a line.
 const LINE_BYTES: usize = 128;

@@ -1,12 +1,10 @@
 -- `recent::recall` meets its contract: the entry of the context shows its state by the cases of `shown`. A noted row is one of those before (`noted-before`), so
 -- it stands in the bytes.
 use Prim.Native.Nat.{_-_, _≤_}
-use mathlib.Core.Logic.{_≢_}
-use mathlib.Core.Path.{_≡_, sym, _∙_, ap}
+use mathlib.Core.Path.{sym, _∙_, ap}
 use native.Mathlib.Omega.{arith}
 use borrow.Author.Needs.{needs}
 use lib.ListN.{getD}
-use Rattle.model.specs.Columns.{rowAt}
 use Rattle.model.specs.Cycles.{Looked}
 use Rattle.state.specs.Plain.{context}
 use Rattle.recent.proofs.NoteLaws.{noted-before, shown-none, shown-own, shown-other}
@@ -44,8 +42,8 @@ returns c =
 sub-last : tie.Need-sub-last
 sub-last c = search needs
 
-cn-at-requires : tie.Need-cn-at-requires
-cn-at-requires c κs =
+has-context-requires : tie.Need-has-context-requires
+has-context-requires c κs =
     let slot = c .before .before in
     omega (arith, inside slot, slot .before .before .pre .0)
 
@@ -61,8 +59,8 @@ returns-2 c =
     let slot = read .before .before .before in
     let a = slot .before .before .args in
     let k = getD (a .notes .now) (slot .slot-of .result) 0 in
-    let own : rowAt (a .t .now) (k - 1) .cn ≡ a .x .cn = omega (arith, read .cn-at .ensures, test .if2 .taken) in
-    rw (← slot .slot-of .ensures) (c .state-at .ensures ∙ sym (shown-own _ _ _ k (read .before .if1 .left) own))
+    rw (← slot .slot-of .ensures)
+    (c .state-at .ensures ∙ sym (shown-own _ _ _ k (read .before .if1 .left) (sym (read .has-context .ensures) ∙ test .if2 .taken)))
 
 state-before-requires : tie.Need-state-before-requires
 state-before-requires c κs = search needs
@@ -75,9 +73,8 @@ returns-3 c =
     let slot = read .before .before .before in
     let a = slot .before .before .args in
     let k = getD (a .notes .now) (slot .slot-of .result) 0 in
-    let other : rowAt (a .t .now) (k - 1) .cn ≢ a .x .cn = omega (arith, read .cn-at .ensures, test .if2 .left) in
     let answers = ap (λ (a : Looked). a .state) (looked .state-before .ensures) in
-    rw (← slot .slot-of .ensures) (answers ∙ sym (shown-other _ _ _ k (read .before .if1 .left) other))
+    rw (← slot .slot-of .ensures) (answers ∙ sym (shown-other _ _ _ k (read .before .if1 .left) (sym (read .has-context .ensures) ∙ test .if2 .left)))
 
 pub recall-spec : {M : Type 1} → statement M
 recall-spec =
@@ -90,7 +87,7 @@ recall-spec =
     start-state-requires
     returns
     sub-last
-    cn-at-requires
+    has-context-requires
     state-at-requires
     returns-2
     state-before-requires

@@ -26,8 +26,8 @@ u32-at-requires c κs = search needs
 is-start-requires : tie.Need-is-start-requires
 is-start-requires c κs = search needs
 
-cn-at-requires : tie.Need-cn-at-requires
-cn-at-requires c κs = search needs
+context-at-requires : tie.Need-context-at-requires
+context-at-requires c κs = search needs
 
 recall-requires : tie.Need-recall-requires
 recall-requires c κs = search needs
@@ -63,7 +63,7 @@ returns c =
     let stamp-is = stamp .u32-at .ensures ∙ ap (λ (y : Cells). y .stamp) row in
     c .rule9 .ensures
     ∙ asked-start _ _ _ _ _ _ _ _ _ (sym (starts-cells _ _ _ stamp-is ct-is) ∙ sym (test .is-start .ensures) ∙ starts .if1 .taken)
-    (ap (λ cn. record { cn = cn }) (own .cn-at .ensures)) (state .recall .ensures) ct-is
+    (own .context-at .ensures) (state .recall .ensures) ct-is
     (mem .u24-at .ensures ∙ ap (λ (y : Cells). y .mem) row) (cost .u32-at2 .ensures ∙ ap (λ (y : Cells). y .cost) row)
 
 returns-2 : tie.Need-returns-2
@@ -87,7 +87,7 @@ keeps-state-spec =
     add-u32-at
     u32-at-requires
     is-start-requires
-    cn-at-requires
+    context-at-requires
     recall-requires
     add-u24-at
     u24-at-requires

@@ -1,12 +1,11 @@
 -- `checker::judge::note_row` keeps the notes: a row of an instruction is noted (`noted-used`), any other changes nothing (`noted-unused`).
-use mathlib.Core.Path.{ap}
 use borrow.Author.Needs.{needs}
 use Rattle.checker.proofs.StartLaws.{noted-used, noted-unused}
 use Rattle.checker.proofs.judge.note_row.Statement.{statement}
 use Rattle.checker.proofs.judge.note_row.Tie as tie
 
-cn-at-requires : tie.Need-cn-at-requires
-cn-at-requires c κs = search needs
+context-at-requires : tie.Need-context-at-requires
+context-at-requires c κs = search needs
 
 note-requires : tie.Need-note-requires
 note-requires c κs = search needs
@@ -16,7 +15,7 @@ returns c =
     let own = c .before in
     let used = own .before .before in
     let start = used .before .before in
-    noted-used (start .pre .1 .1 .1) (start .pre .1 .1 .0) (used .if1 .taken) (ap (λ cn. record { cn = cn }) (own .cn-at .ensures)) (c .note .ensures)
+    noted-used (start .pre .1 .1 .1) (start .pre .1 .1 .0) (used .if1 .taken) (own .context-at .ensures) (c .note .ensures)
 
 returns-2 : tie.Need-returns-2
 returns-2 c =
@@ -24,4 +23,4 @@ returns-2 c =
     noted-unused (start .pre .1 .1 .1) (start .pre .1 .1 .0) (c .if1 .left)
 
 pub note-row-spec : {M : Type 1} → statement M
-note-row-spec = tie.close (tie.spec cn-at-requires note-requires returns returns-2)
+note-row-spec = tie.close (tie.spec context-at-requires note-requires returns returns-2)
