@@ -43,13 +43,6 @@ opens-in-order l = record {
   else = λ a. rw (a .verdict);
 }
 
--- on a refusal the first part is empty
-pub first-refused : (l : List ℕ) (m : ℕ) → begun l ≡ begunNone m → firstPart l ≡ []
-unfolding firstPart part
-first-refused l m e =
-    let stays : 0 ≡ step [] 0 .next = sym (step-stays [] 0 (omega arith)) in
-    ap (λ (b : Begun). step (b .trace) (b .next) .part) e ∙ step-part [] 0 0 stays
-
 -- ---- the part of a step by its numbers
 
 -- the numbers that are told of a step name its part: so many bytes of the trace from the first one on
@@ -104,3 +97,10 @@ module _ (l : List ℕ) (a : Accepted l) where
   pub first-none : length (claimsIn l) ≡ 0 → firstPart l ≡ []
   unfolding firstPart walk
   first-none e = ap (λ (s : Stepped). s .part) (rw e at walk-ends)
+
+-- on a refusal the first part is empty
+pub first-refused : (l : List ℕ) (m : ℕ) → begun l ≡ begunNone m → firstPart l ≡ []
+unfolding firstPart part
+first-refused l m e =
+    let stays : 0 ≡ step [] 0 .next = sym (step-stays [] 0 (omega arith)) in
+    ap (λ (b : Begun). step (b .trace) (b .next) .part) e ∙ step-part [] 0 0 stays
