@@ -10,7 +10,7 @@ use Rattle.number.specs.Cells.{encode, decode}
 use Rattle.number.specs.Num.{num, be, AllBytes}
 use Rattle.number.specs.Tables.{every}
 use Rattle.number.proofs.TableLaws.{every-at}
-use Rattle.model.specs.Columns.{rowAt, rowsOf, table, bytesOf}
+use Rattle.model.specs.Columns.{rowBytes, rowAt, rowsOf, table, bytesOf}
 use Rattle.model.specs.Constraints.{firstBroken, inUse, k1, k2, k3, k4, k5, k6, k26, firstOr}
 use Rattle.model.specs.Cycles.{Claim, Counts, counts, emptyRows, cyclesFrom, count, starts}
 use Rattle.model.specs.Promises.{ValidClaim, Fits, WellSized}
