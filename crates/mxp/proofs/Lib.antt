@@ -1,2 +1,2 @@
--- The laws and theorems of `mxp` that belong to no one function.
-pub mod OutLaws
+-- The laws of `mxp` that belong to no one function.
+pub mod PartLaws

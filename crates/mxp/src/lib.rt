@@ -1,17 +1,18 @@
 // The stage's calls for programs in C and Rust, by `rt staticlib mxp`: numbers and byte slices alone, an answer for every input.
-// A slice is a pointer and a length. The numbers of an answer are written to an array that the caller lends; what document 01 leaves open is 0.
+// A slice is a pointer and a length. The numbers of an answer are written to an array that the caller lends, by the layouts of `out`.
 ghost use mathlib.Core.Path.{_≡_};
 ghost use lib.ListN.{length};
 ghost use Rattle.filler.specs.Fill.{outcome, bufferAfter};
 ghost use Rattle.mxp.specs.Out.{checkOut, fillOut, rowsOut, claimOut, lastOut, openOut, stepOut};
-use checker::Verdict;
-use filler::Filled;
-use last::Last;
 use last::last_state;
-use model::ROW_BYTES;
+use out::put_claimed;
+use out::put_filled;
+use out::put_last;
+use out::put_place;
+use out::put_start;
+use out::put_step;
+use out::put_verdict;
 use state::Context;
-use trace::place::Claimed;
-use trace::place::Place;
 use trace::place::claim_at;
 use trace::place::place_of;
 use walker::next_at;
@@ -23,11 +24,7 @@ pub extern "C" fn mxp_check(trace: &[u8], out: &mut [u64; 9])
     ensures { λ _. ⌜ now (out .exit) ≡ checkOut (now (trace .entry)) ⌝ }
 {
     let verdict = checker::check(trace);
-    match verdict {
-        Verdict::Accepted(c) => *out = [0, 0, 0, 1, c.instructions, c.oob, c.empty, 0, 0],
-        Verdict::Broken { row, constraint } => *out = [0, 0, 0, 0, 0, 0, 0, row, constraint],
-        Verdict::Refused(r) => *out = [r.number, r.line, 0, 0, 0, 0, 0, 0, 0],
-    }
+    put_verdict(verdict, out);
 }
 
 // Fills a buffer with the trace of a list after so many empty rows. Its answer: refused, line, 0, rows. The bytes behind the rows stay, and on a refusal
@@ -38,10 +35,7 @@ pub extern "C" fn mxp_fill(list: &[u8], empty: u64, buffer: &mut [u8], out: &mut
     ensures { λ _. ⌜ now (buffer .exit) ≡ bufferAfter (outcome (now (list .entry)) empty (length (now (buffer .entry)))) (now (buffer .entry)) ⌝ }
 {
     let filled = filler::fill(list, empty, buffer);
-    match filled {
-        Filled::Rows(n) => *out = [0, 0, 0, n],
-        Filled::Refused(r) => *out = [r.number, r.line, 0, 0],
-    }
+    put_filled(filled, out);
 }
 
 // Where the rows of instruction k stand in a trace. Its answer: refused, line, 0, first byte of the part, its length in bytes.
@@ -50,16 +44,7 @@ pub extern "C" fn mxp_rows(trace: &[u8], k: u64, out: &mut [u64; 5])
     ensures { λ _. ⌜ now (out .exit) ≡ rowsOut (now (trace .entry)) k ⌝ }
 {
     let place = place_of(trace, k);
-    match place {
-        Place::At { first, rows } => *out = [
-            0,
-            0,
-            0,
-            (first * ROW_BYTES) as u64,
-            (rows * ROW_BYTES) as u64,
-        ],
-        Place::Refused(r) => *out = [r.number, r.line, 0, 0, 0],
-    }
+    put_place(place, out);
 }
 
 // The claim of instruction k of a trace. Its answer: refused, line, 0, cn, then end 1 and end 2 by their first byte and two halves.
@@ -68,23 +53,7 @@ pub extern "C" fn mxp_claim(trace: &[u8], k: u64, out: &mut [u64; 10])
     ensures { λ _. ⌜ now (out .exit) ≡ claimOut (now (trace .entry)) k ⌝ }
 {
     let claimed = claim_at(trace, k);
-    match claimed {
-        Claimed::Is(c) => {
-            *out = [
-                0,
-                0,
-                0,
-                c.context.cn as u64,
-                c.end1.top as u64,
-                c.end1.hi,
-                c.end1.lo,
-                c.end2.top as u64,
-                c.end2.hi,
-                c.end2.lo,
-            ]
-        }
-        Claimed::Refused(r) => *out = [r.number, r.line, 0, 0, 0, 0, 0, 0, 0, 0],
-    }
+    put_claimed(claimed, out);
 }
 
 // The last state of a context in a trace, with a look at no more than `limit` cycles. Its answer: refused, line, 0, mem, cost, looked.
@@ -93,17 +62,7 @@ pub extern "C" fn mxp_last_state(trace: &[u8], cn: u32, limit: u64, out: &mut [u
     ensures { λ _. ⌜ now (out .exit) ≡ lastOut (now (trace .entry)) (record { cn = cn }) limit ⌝ }
 {
     let last = last_state(trace, Context { cn }, limit);
-    match last {
-        Last::Is(a) => *out = [
-            0,
-            0,
-            0,
-            a.state.mem.0 as u64,
-            a.state.cost.0,
-            a.cycles as u64,
-        ],
-        Last::Refused(r) => *out = [r.number, r.line, 0, 0, 0, 0],
-    }
+    put_last(last, out);
 }
 
 // Opens a walk over a trace. Its answer: refused, line, 0, next row.
@@ -112,7 +71,7 @@ pub extern "C" fn mxp_open(trace: &[u8], out: &mut [u64; 4])
     ensures { λ _. ⌜ now (out .exit) ≡ openOut (now (trace .entry)) ⌝ }
 {
     let start = start_of(trace);
-    *out = [start.why.number, start.why.line, 0, start.next as u64];
+    put_start(start, out);
 }
 
 // One step of a walk over any bytes, from any row. Its answer: first byte of the part, its length in bytes, next row; 0, 0 and the same row where the part
@@ -122,13 +81,5 @@ pub extern "C" fn mxp_step(trace: &[u8], next: usize, out: &mut [u64; 3])
     ensures { λ _. ⌜ now (out .exit) ≡ stepOut (now (trace .entry)) next ⌝ }
 {
     let after = next_at(trace, next);
-    if after == next {
-        *out = [0, 0, next as u64];
-    } else {
-        *out = [
-            (next * ROW_BYTES) as u64,
-            ((after - next) * ROW_BYTES) as u64,
-            after as u64,
-        ];
-    }
+    put_step(next, after, out);
 }

@@ -24,5 +24,6 @@ pub mod Checker
 pub mod Trace
 pub mod Last
 pub mod Walker
+pub mod Out
 pub mod Mxp
 pub mod Text

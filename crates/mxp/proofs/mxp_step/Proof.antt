@@ -1,41 +1,22 @@
--- `mxp::mxp_step` writes the numbers of the step: of one that stays (`numbers-stay`), and of one that moves (`numbers-move`), whose rows are there.
-use mathlib.Core.Path.{sym, ap}
+-- `mxp::mxp_step` lays out the step from its row to the row where it goes (`step-between`); its part ends inside the trace, so its numbers fit.
+use mathlib.Core.Path.{_∙_, ap}
 use native.Mathlib.Omega.{arith}
 use borrow.Author.Needs.{needs}
-use Rattle.walker.proofs.StepLaws.{step-forward, numbers-stay, numbers-move, moved-inside}
-use Rattle.mxp.specs.Out.{stepList}
+use Rattle.walker.proofs.StepLaws.{step-forward}
+use Rattle.out.specs.Out.{stepList}
+use Rattle.mxp.proofs.PartLaws.{step-between, between-inside}
 use Rattle.mxp.proofs.mxp_step.Statement.{statement}
 use Rattle.mxp.proofs.mxp_step.Tie as tie
 
-next-at-requires : tie.Need-next-at-requires
-next-at-requires c κs = search needs
-
-mul-t7 : tie.Need-mul-t7
-mul-t7 c =
+put-step-requires : tie.Need-put-step-requires
+put-step-requires c κs =
     let call = c .before in
     let a = call .before .before .args in
-    omega (arith, step-forward (a .trace .now) (a .next), call .next-at .ensures, moved-inside _ _ _ (call .next-at .ensures) (c .if1 .left))
-
-sub-t9 : tie.Need-sub-t9
-sub-t9 c =
-    let call = c .before in
-    let a = call .before .before .args in
-    omega (arith, step-forward (a .trace .now) (a .next), call .next-at .ensures)
-
-mul-t10 : tie.Need-mul-t10
-mul-t10 c =
-    let call = c .before in
-    omega (arith, moved-inside _ _ _ (call .next-at .ensures) (c .if1 .left))
+    let l = a .trace .now in
+    (omega (arith, step-forward l (a .next), call .next-at .ensures), omega (arith, between-inside l (a .next) _ (call .next-at .ensures)))
 
 returns : tie.Need-returns
-returns c =
-    let test = c .before in
-    ap stepList (sym (numbers-stay _ _ _ (test .before .next-at .ensures) (test .if1 .taken)))
-
-returns-2 : tie.Need-returns-2
-returns-2 c =
-    let test = c .before in
-    ap stepList (sym (numbers-move _ _ _ (test .before .next-at .ensures) (test .if1 .left)))
+returns c = c .put-step .ensures ∙ ap stepList (step-between _ _ _ (c .before .before .next-at .ensures))
 
 pub mxp-step-spec : {M : Type 1} → statement M
-mxp-step-spec = tie.close (tie.spec next-at-requires mul-t7 sub-t9 mul-t10 returns returns-2)
+mxp-step-spec = tie.close (tie.spec (λ c κs. search needs) put-step-requires returns)

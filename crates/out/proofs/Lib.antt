@@ -1,0 +1,2 @@
+-- The laws of `out` that belong to no one function.
+pub mod OutLaws

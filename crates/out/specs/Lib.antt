@@ -1,0 +1,2 @@
+-- The definitions of `out`.
+pub mod Out
