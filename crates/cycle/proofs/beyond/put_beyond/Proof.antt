@@ -59,11 +59,13 @@ row-of-requires : tie.Need-row-of-requires Inv-loop μ-loop
 row-of-requires c κs =
     let on = c .before in
     let off = on .before in
-    let l = off .before .before .loop in
+    let turn = off .before .before in
+    let start = turn .before .before .before .before in
+    let l = turn .loop in
     let words = off .push .ok in
     let fits = val-lt (off .push .result) (omega (arith, words)) (omega (arith, words)) (omega (arith, words)) in
     let shown = shift-next (l .acc .top) (off .before .loop-test .taken) (l .inv .2) (off .push .ensures) (on .push2 .ensures) fits in
-    (off .before .before .before .before .before .before .pre .1 .0, (shown .digit, shown .prefix))
+    (start .pre .1 .0, (shown .digit, shown .prefix))
 
 put-row-requires : tie.Need-put-row-requires Inv-loop μ-loop
 put-row-requires c κs = search needs

@@ -35,7 +35,9 @@ empty-row-requires : tie.Need-empty-row-requires
 empty-row-requires c κs = search needs
 
 cast-cost : tie.Need-cast-cost
-cast-cost c = omega (arith, paid-lt (c .before .before .before .before .before .pre .0))
+cast-cost c =
+    let start = c .before .before .before .before .before in
+    omega (arith, paid-lt (start .pre .0))
 
 returns : tie.Need-returns
 unfolding outRow

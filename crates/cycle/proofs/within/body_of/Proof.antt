@@ -11,13 +11,19 @@ use Rattle.cycle.proofs.within.body_of.Statement.{statement}
 use Rattle.cycle.proofs.within.body_of.Tie as tie
 
 cast-t5 : tie.Need-cast-t5
-cast-t5 c = omega (arith, paid-lt (c .before .before .before .pre .sound))
+cast-t5 c =
+    let start = c .before .before .before in
+    omega (arith, paid-lt (start .pre .sound))
 
 cast-t6 : tie.Need-cast-t6
-cast-t6 c = omega (arith, left-fits (c .before .before .before .before .pre))
+cast-t6 c =
+    let start = c .before .before .before .before in
+    omega (arith, left-fits (start .pre))
 
 cast-t7 : tie.Need-cast-t7
-cast-t7 c = omega (arith, left-fits (c .before .before .before .before .before .pre))
+cast-t7 c =
+    let start = c .before .before .before .before .before in
+    omega (arith, left-fits (start .pre))
 
 digit-requires : tie.Need-digit-requires
 digit-requires c κs = search needs
@@ -29,7 +35,8 @@ returns : tie.Need-returns
 unfolding inRow
 returns c =
     let byte = c .before in
-    let made = byte .before .before .before .before .before .before .pre in
+    let start = byte .before .before .before .before .before .before in
+    let made = start .pre in
     record {
       mem = refl;
       memn = ap (λ (s : model.State). s .mem) (made .growth .after);
