@@ -49,13 +49,13 @@ has-context-requires c κs =
 
 state-at-requires : tie.Need-state-at-requires
 state-at-requires c κs =
-    let slot = c .before .before .before .before .before in
+    let slot = c .before .before .before .before in
     omega (arith, inside slot, slot .before .before .pre .0)
 
 returns-2 : tie.Need-returns-2
 returns-2 c =
     let test = c .before in
-    let read = test .before .before in
+    let read = test .before in
     let slot = read .before .before .before in
     let a = slot .before .before .args in
     let k = getD (a .notes .now) (slot .slot-of .result) 0 in
@@ -69,7 +69,7 @@ returns-3 : tie.Need-returns-3
 returns-3 c =
     let looked = c .before in
     let test = looked .before in
-    let read = test .before .before in
+    let read = test .before in
     let slot = read .before .before .before in
     let a = slot .before .before .args in
     let k = getD (a .notes .now) (slot .slot-of .result) 0 in
