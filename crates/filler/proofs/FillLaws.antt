@@ -24,8 +24,9 @@ use Rattle.refusal.specs.declared.Refusal.{Refusal}
 use Rattle.claim.specs.Claims.{claimOf}
 use Rattle.claim.specs.Instruction.{Instruction}
 use Rattle.list.specs.List.{Listed, instructions, refusedIn, readList}
+use Rattle.lines.specs.Lines.{rowsOfClaims, Lists, claimsListed, listClaims}
 use Rattle.filler.specs.Fill.{maxList, written, refused, placed, filled, outcome, bufferAfter}
-use Rattle.filler.specs.Lines.{cycleRows, toldMeasured, Lists, claimsListed, listClaims}
+use Rattle.filler.specs.Measured.{toldMeasured}
 use Rattle.filler.specs.declared.measure.Measured.the-variants as measured
 
 -- ---- a text
@@ -62,10 +63,10 @@ module _ (t : List ℕ) (empty room : ℕ) where
       outcome-lists h = rw (outcome-read, h .read)
 
 -- a text whose first reading counts lines is a list of so many, and its cycles have the rows that were counted
-pub measured-lists : (t : List ℕ) {k n : ℕ} → toldMeasured (readList 1 t) ≡ measured.Lines k n → Lists t k × (n ≡ cycleRows (listClaims t))
+pub measured-lists : (t : List ℕ) {k n : ℕ} → toldMeasured (readList 1 t) ≡ measured.Lines k n → Lists t k × (n ≡ rowsOfClaims (listClaims t))
 measured-lists t {k} {n} = by (readList 1 t) refl
   where
-    by : (x : Listed) → readList 1 t ≡ x → toldMeasured x ≡ measured.Lines k n → Lists t k × (n ≡ cycleRows (claimsListed x))
+    by : (x : Listed) → readList 1 t ≡ x → toldMeasured x ≡ measured.Lines k n → Lists t k × (n ≡ rowsOfClaims (claimsListed x))
     by (instructions is) e h = (record { each = is; read = e; count = cc }, cc)
     by (refusedIn m l at) e h = clash cc
 
@@ -133,7 +134,7 @@ written-read t empty room {out} = by (ltb maxList (length t)) (eqb empty 0) (rea
 
 -- ---- the trace of claims, by the rows of their cycles
 
-module _ (room empty n : ℕ) (cs : List Claim) (rows : n ≡ cycleRows cs) (some : 0 < empty) where
+module _ (room empty n : ℕ) (cs : List Claim) (rows : n ≡ rowsOfClaims cs) (some : 0 < empty) where
   -- more empty rows than a trace has left
   pub too-many : maxRows - n < empty → placed room (trace empty cs) ≡ refused fillTooLong 0
   too-many h = placed-long room (trace empty cs) (omega (arith, length-trace empty cs))
@@ -161,7 +162,7 @@ empty-stored l n h e =
     rw (e, stored l rows (rw count h)) (take-at (bytesOf rows) (drop (length rows * rowBytes) l) (n * rowBytes) (rw count at (length-bytes rows)))
 
 -- the empty rows, then the cycles
-pub filled-buffer : {m k : List ℕ} (l : List ℕ) (empty : ℕ) (cs : List Claim) → (empty + cycleRows cs) * rowBytes ≤ length l
+pub filled-buffer : {m k : List ℕ} (l : List ℕ) (empty : ℕ) (cs : List Claim) → (empty + rowsOfClaims cs) * rowBytes ≤ length l
     → m ≡ sets l 0 (bytesOf (replicate empty emptyRow)) → k ≡ sets m (empty * rowBytes) (bytesOf (cyclesOf 1 fresh cs))
     → k ≡ bufferAfter (written (trace empty cs)) l
 unfolding trace

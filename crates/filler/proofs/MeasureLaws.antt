@@ -6,6 +6,7 @@ use mathlib.Core.Path.{_≡_, refl, sym, _∙_, ap}
 use native.Mathlib.Numerals.{add-one}
 use native.Mathlib.Omega.{arith}
 use Rattle.number.specs.Tests.{pick}
+use Rattle.number.proofs.TestLaws.{clash}
 use Rattle.model.specs.Constraints.{inLast, outLast}
 use Rattle.model.specs.Cycles.{Claim}
 use Rattle.model.specs.Trace.{inBounds, lastOf, cyclesOf}
@@ -13,15 +14,41 @@ use Rattle.refusal.specs.Refusals.{inLine}
 use Rattle.refusal.specs.declared.Refusal.{Refusal}
 use Rattle.claim.specs.Claims.{claimOf}
 use Rattle.claim.specs.Instruction.{Instruction}
-use Rattle.claim.specs.Told.{plainInstruction, toldClaim, plainClaim}
+use Rattle.claim.specs.Told.{toldInstruction, plainInstruction, toldClaim, plainClaim}
 use Rattle.claim.specs.declared.claim.Claim as code
 use Rattle.claim.specs.declared.instruction.Instruction as line
+use Rattle.list.specs.List as list
 use Rattle.list.specs.List.{nextLine, readList}
 use Rattle.list.specs.Told.{toldNext}
 use Rattle.list.specs.declared.Next.the-variants as next
-use Rattle.filler.specs.Lines.{cycleRows, toldMeasured}
+use Rattle.lines.specs.Lines.{rowsOfClaims}
+use Rattle.lines.proofs.ReadLaws.{Reached, reached-start, reached-end, reached-refused, reached-next, claim-told, rows-snoc}
+use Rattle.filler.specs.Measured.{toldMeasured}
 use Rattle.filler.specs.declared.measure.Measured.the-variants.{Lines, Refused}
-use Rattle.filler.proofs.ReadLaws.{Reached, reached-start, reached-end, reached-refused, reached-next, told-end, told-one, told-refused, claim-told, rows-snoc}
+
+-- ---- what the code holds of a line
+
+-- the list ends
+told-end : (l : ℕ) (x : list.Next) → toldNext l x ≡ next.End → x ≡ list.end
+told-end l list.end e = refl
+told-end l (list.one i q) e = clash cc
+told-end l (list.refused n q) e = clash cc
+
+-- an instruction, and the place after its line
+told-one : (l : ℕ) (x : list.Next) {i : line.Instruction} {q : ℕ} → toldNext l x ≡ next.One i q
+    → (j : Instruction) × (x ≡ list.one j q) × (i ≡ toldInstruction j)
+told-one l list.end e = clash cc
+told-one l (list.one j r) e = (j, cc, cc)
+told-one l (list.refused n r) e = clash cc
+
+-- a line that is refused, by the number of the refusal
+told-refused : (l : ℕ) (x : list.Next) {w : Refusal} {q : ℕ} → toldNext l x ≡ next.Refused w q
+    → (n : ℕ) × (x ≡ list.refused n q) × (w ≡ inLine n l)
+told-refused l list.end e = clash cc
+told-refused l (list.one i r) e = clash cc
+told-refused l (list.refused n r) e = (n, cc, cc)
+
+-- ---- what is counted
 
 -- the cycle of a claim has at most the rows of one that is out of bounds
 last-le : (c : Claim) → lastOf c ≤ outLast
@@ -36,7 +63,7 @@ last-le c = by (inBounds c)
 pub record Counted (t : List ℕ) (at lines n : ℕ) : Type 0 where
   pub done : List Instruction
   pub reached : Reached t done lines at
-  pub rows : n ≡ cycleRows (map claimOf done)
+  pub rows : n ≡ rowsOfClaims (map claimOf done)
   pub few : n ≤ suc outLast * lines
 
 -- one line more with m rows is counted, and it ends further on, at the place q

@@ -1,4 +1,4 @@
 -- The definitions of `filler`.
 pub mod Fill
-pub mod Lines
+pub mod Measured
 pub mod Answer

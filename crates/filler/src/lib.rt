@@ -4,19 +4,18 @@ ghost use Prim.Native.Nat.{_-_, _<_};
 ghost use lib.ListN.{length};
 ghost use Rattle.model.specs.Trace.{trace};
 ghost use Rattle.model.specs.Verdict.{maxRows};
+ghost use Rattle.lines.specs.Lines.{Lists, listClaims, rowsOfClaims};
 ghost use Rattle.filler.specs.Answer.{told};
 ghost use Rattle.filler.specs.Fill.{outcome, placed, bufferAfter};
-ghost use Rattle.filler.specs.Lines.{Lists, listClaims, cycleRows};
+use lines::put_empty;
+use lines::put_lines;
 use measure::Measured;
 use measure::measure;
 use model::MAX_ROWS;
 use model::ROW_BYTES;
 use refusal::Refusal;
-use write::put_empty;
-use write::put_lines;
 
 mod measure;
-mod write;
 
 // The most bytes of a list.
 const MAX_LIST: usize = 4194304;
@@ -43,7 +42,7 @@ fn rows_left(rows: usize) -> u64
 // Writes the trace of a list of so many lines, whose cycles have so many rows, after the empty rows, where it may have them and there is room.
 fn fill_lines(list: &[u8], lines: usize, rows: usize, empty: u64, buf: &mut [u8]) -> Filled
     requires { ⌜ Lists (now list) lines ⌝ }
-    requires { ⌜ rows ≡ cycleRows (listClaims (now list)) ⌝ }
+    requires { ⌜ rows ≡ rowsOfClaims (listClaims (now list)) ⌝ }
     requires { ⌜ 0 < empty ⌝ }
     ensures { λ r. ⌜ r ≡ told (placed (length (now (buf .entry))) (trace empty (listClaims (now (list .entry))))) ⌝ }
     ensures { λ _. ⌜ now (buf .exit) ≡ bufferAfter (placed (length (now (buf .entry))) (trace empty (listClaims (now (list .entry))))) (now (buf .entry)) ⌝ }

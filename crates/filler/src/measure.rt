@@ -4,7 +4,7 @@ ghost use Prim.Native.Nat.{_≤_};
 ghost use lib.ListN.{length};
 ghost use Rattle.list.specs.List.{readList};
 ghost use Rattle.filler.specs.Fill.{maxList};
-ghost use Rattle.filler.specs.Lines.{toldMeasured};
+ghost use Rattle.filler.specs.Measured.{toldMeasured};
 use claim::claim::claim_of;
 use cycle::rows_of;
 use list::Next;

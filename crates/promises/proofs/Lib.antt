@@ -15,6 +15,7 @@ pub mod Claim
 pub mod Cycle
 pub mod Form
 pub mod List
+pub mod Lines
 pub mod Filler
 pub mod Words
 pub mod Rules

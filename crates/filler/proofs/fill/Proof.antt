@@ -4,7 +4,7 @@ use mathlib.Core.Path.{_≡_, sym, _∙_, ap}
 use borrow.Author.Needs.{needs}
 use lib.ListN.{length}
 use Rattle.refusal.specs.Refusals.{inLine}
-use Rattle.filler.specs.Lines.{Lists, listClaims, cycleRows}
+use Rattle.lines.specs.Lines.{Lists, listClaims, rowsOfClaims}
 use Rattle.filler.specs.declared.Filled.the-variants.{Refused}
 use Rattle.filler.proofs.FillLaws.{outcome-long, outcome-none, outcome-refused, outcome-lists, measured-lists}
 use Rattle.filler.proofs.fill.Statement.{statement}
@@ -13,7 +13,7 @@ use Rattle.filler.proofs.fill.Tie as tie
 -- the list has the lines that were counted, and their cycles the rows
 counted : (c : tie.After-measured2)
     → let t = c .before .before .before .before .before .before .before .args .list .now in
-    Lists t (c .measured2 .given .0 .0) × (c .measured2 .given .0 .1 .0 ≡ cycleRows (listClaims t))
+    Lists t (c .measured2 .given .0 .0) × (c .measured2 .given .0 .1 .0 ≡ rowsOfClaims (listClaims t))
 counted c = measured-lists _ (sym (c .before .before .measure .ensures) ∙ c .measured2 .given .1)
 
 list-too-long-requires : tie.Need-list-too-long-requires

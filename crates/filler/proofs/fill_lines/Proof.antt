@@ -9,7 +9,7 @@ use lib.ListN.{length}
 use Rattle.model.specs.Cycles.{Claim}
 use Rattle.model.specs.Trace.{trace}
 use Rattle.model.proofs.JoinLaws.{length-trace}
-use Rattle.filler.specs.Lines.{listClaims}
+use Rattle.lines.specs.Lines.{listClaims}
 use Rattle.filler.specs.declared.Filled.the-variants.{Rows, Refused}
 use Rattle.filler.proofs.FillLaws.{too-many, too-short, there-is-room, empty-stored, filled-buffer}
 use Rattle.filler.proofs.fill_lines.Statement.{statement}

@@ -1,4 +1,4 @@
--- `filler::write::put_empty` meets its contract. The invariant: zeros stand in the first i bytes, and the others are as they were; zero-more is one
+-- `lines::put_empty` meets its contract. The invariant: zeros stand in the first i bytes, and the others are as they were; zero-more is one
 -- turn. The measure is the bytes left. The bytes of empty rows are zeros, by empty-bytes.
 use Prim.Native.Nat.{_*_, _-_, _≤_}
 use mathlib.Core.Path.{_≡_}
@@ -8,9 +8,9 @@ use lib.ListN.{length, replicate}
 use lib.Seq.{sets}
 use Rattle.model.specs.Columns.{rowBytes}
 use Rattle.model.proofs.RowBytes.{empty-bytes}
-use Rattle.filler.proofs.WriteLaws.{zero-more}
-use Rattle.filler.proofs.write.put_empty.Statement.{statement}
-use Rattle.filler.proofs.write.put_empty.Tie as tie
+use Rattle.lines.proofs.WriteLaws.{zero-more}
+use Rattle.lines.proofs.put_empty.Statement.{statement}
+use Rattle.lines.proofs.put_empty.Tie as tie
 
 abbrev Inv-loop : tie.InvT-loop
 Inv-loop buf₀ rows end i₀ buf i = (i ≤ end) × (length buf ≡ length buf₀) × (buf ≡ sets buf₀ 0 (replicate i 0))

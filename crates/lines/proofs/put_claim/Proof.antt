@@ -1,12 +1,12 @@
--- `filler::write::put_claim` meets its contract: the state that is recalled is the one that the cycle is written at.
+-- `lines::put_claim` meets its contract: the state that is recalled is the one that the cycle is written at.
 use mathlib.Core.Path.{_≡_}
 use native.Mathlib.Numerals.{add-one}
 use borrow.Author.Needs.{needs}
 use Rattle.model.specs.Columns.{rowAt}
 use Rattle.state.specs.Plain.{context, state}
 use Rattle.recent.specs.Notes.{recalled}
-use Rattle.filler.proofs.write.put_claim.Statement.{statement}
-use Rattle.filler.proofs.write.put_claim.Tie as tie
+use Rattle.lines.proofs.put_claim.Statement.{statement}
+use Rattle.lines.proofs.put_claim.Tie as tie
 
 -- the state that the call answers
 answers : (c : tie.After-recall)

@@ -1,4 +1,4 @@
--- What the filler learns of a list as it reads it.
+-- What is known of a list before its cycles are written: its lines, their claims, and the rows of the claims' cycles.
 use Prim.Native.Nat.{ℕ}
 use mathlib.Core.List.{List, [], map}
 use mathlib.Core.Path.{_≡_}
@@ -6,21 +6,13 @@ use lib.ListN.{length}
 use Rattle.model.specs.Cycles.{Claim}
 use Rattle.model.specs.State.{fresh}
 use Rattle.model.specs.Trace.{cyclesOf}
-use Rattle.refusal.specs.Refusals.{inLine}
 use Rattle.claim.specs.Claims.{claimOf}
 use Rattle.claim.specs.Instruction.{Instruction}
 use Rattle.list.specs.List.{Listed, instructions, refusedIn, readList}
-use Rattle.filler.specs.declared.measure.Measured.{Measured}
-use Rattle.filler.specs.declared.measure.Measured.the-variants.{Lines, Refused}
 
 -- how many rows the cycles of claims have
-abbrev pub cycleRows : List Claim → ℕ
-cycleRows cs = length (cyclesOf 1 fresh cs)
-
--- what a list that was read comes to: its lines and the rows of their cycles, or its first refusal
-abbrev pub toldMeasured : Listed → Measured
-toldMeasured (instructions is) = Lines (length is) (cycleRows (map claimOf is))
-toldMeasured (refusedIn n l at) = Refused (inLine n l)
+abbrev pub rowsOfClaims : List Claim → ℕ
+rowsOfClaims cs = length (cyclesOf 1 fresh cs)
 
 -- the text is a list of so many lines
 pub record Lists (t : List ℕ) (lines : ℕ) : Type 0 where

@@ -1,4 +1,4 @@
-// The second reading of a list: its trace is written, cycle by cycle.
+// The trace of a list, written to a lent buffer: its empty rows, and its cycles line by line. Only crates of this repository call these functions.
 ghost use mathlib.Core.Path.{_≡_};
 ghost use Prim.Native.Nat.{suc, _+_, _*_, _≤_, _<_};
 ghost use lib.ListN.{length, replicate, take};
@@ -10,7 +10,7 @@ ghost use Rattle.model.specs.Verdict.{maxRows};
 ghost use Rattle.state.specs.Plain.{context};
 ghost use Rattle.recent.specs.Notes.{Notes, recalled};
 ghost use Rattle.claim.specs.Told.{plainClaim};
-ghost use Rattle.filler.specs.Lines.{Lists, listClaims, cycleRows};
+ghost use Rattle.lines.specs.Lines.{Lists, listClaims, rowsOfClaims};
 use claim::claim::Claim;
 use claim::claim::claim_of;
 use cycle::put_cycle;
@@ -23,7 +23,7 @@ use recent::note;
 use recent::recall;
 
 // Writes so many empty rows, from the first on.
-pub(crate) fn put_empty(buf: &mut [u8], rows: usize)
+pub fn put_empty(buf: &mut [u8], rows: usize)
     requires { ⌜ rows * rowBytes ≤ length (now buf) ⌝ }
     ensures { λ _. ⌜ now (buf .exit) ≡ sets (now (buf .entry)) 0 (bytesOf (replicate rows emptyRow)) ⌝ }
 {
@@ -50,12 +50,12 @@ fn put_claim(buf: &mut [u8], notes: &[u32; SLOTS], row: usize, cycles: usize, c:
 }
 
 // Writes the cycles of a list of so many lines from this row on, behind empty rows.
-pub(crate) fn put_lines(list: &[u8], lines: usize, buf: &mut [u8], first: usize)
+pub fn put_lines(list: &[u8], lines: usize, buf: &mut [u8], first: usize)
     requires { ⌜ Lists (now list) lines ⌝ }
     requires { ⌜ 0 < first ⌝ }
     requires { ⌜ take (first * rowBytes) (now buf) ≡ bytesOf (replicate first emptyRow) ⌝ }
-    requires { ⌜ first + cycleRows (listClaims (now list)) ≤ maxRows ⌝ }
-    requires { ⌜ (first + cycleRows (listClaims (now list))) * rowBytes ≤ length (now buf) ⌝ }
+    requires { ⌜ first + rowsOfClaims (listClaims (now list)) ≤ maxRows ⌝ }
+    requires { ⌜ (first + rowsOfClaims (listClaims (now list))) * rowBytes ≤ length (now buf) ⌝ }
     ensures { λ _. ⌜ now (buf .exit) ≡ sets (now (buf .entry)) (first * rowBytes) (bytesOf (cyclesOf 1 fresh (listClaims (now (list .entry))))) ⌝ }
 {
     let mut notes: [u32; SLOTS] = [0; SLOTS];

@@ -1,4 +1,4 @@
--- `filler::write::put_lines` meets its contract. The invariant is Filling: the lines up to a place were read, and the trace of their instructions is written,
+-- `lines::put_lines` meets its contract. The invariant is Filling: the lines up to a place were read, and the trace of their instructions is written,
 -- up to a row, with notes on its rows; filling-next is one turn. The measure is the lines left. As the text is a list, a line that is left is an instruction
 -- (filling-line), and after the last one the trace of all is written (filling-all).
 use Prim.Native.Nat.{_+_, _-_, _≤_}
@@ -9,9 +9,9 @@ use native.Mathlib.Omega.{arith}
 use borrow.Author.Needs.{needs}
 use Rattle.list.specs.List.{nextLine}
 use Rattle.list.specs.Told.{toldNext}
-use Rattle.filler.proofs.WriteLaws.{Filling, filling-first, length-kept, filling-all, filling-line, Turn, rows-within, next-asked, filling-next}
-use Rattle.filler.proofs.write.put_lines.Statement.{statement}
-use Rattle.filler.proofs.write.put_lines.Tie as tie
+use Rattle.lines.proofs.WriteLaws.{Filling, filling-first, length-kept, filling-all, filling-line, Turn, rows-within, next-asked, filling-next}
+use Rattle.lines.proofs.put_lines.Statement.{statement}
+use Rattle.lines.proofs.put_lines.Tie as tie
 
 abbrev Inv-loop : tie.InvT-loop
 Inv-loop list lines buf₀ first notes₀ at₀ row₀ done₀ buf notes at row done = (done ≤ lines) × Filling list buf₀ buf notes first at row done

@@ -1,4 +1,4 @@
--- A list that is read line by line: where the reading stands after some lines, what the next line makes of it, and what the code holds of a line.
+-- A list that is read line by line: where the reading stands after some lines, what the next line makes of it, and the claim that the code makes of a line.
 use Prim.Native.Nat.{ℕ, suc, _+_, _-_, _≤_, _<_}
 use mathlib.Core.List.{List, [], _∷_, _++_, append-assoc, append-nil}
 use mathlib.Core.Logic.{_⊎_, inl, inr, ⊎-elim}
@@ -17,37 +17,13 @@ use Rattle.claim.specs.Told.{toldInstruction, plainInstruction, toldClaim, plai
 use Rattle.claim.specs.declared.claim.Claim as code-claim
 use Rattle.claim.specs.declared.instruction.Instruction as code
 use Rattle.claim.proofs.ClaimLaws.{plain-told}
-use Rattle.refusal.specs.Refusals.{inLine}
-use Rattle.refusal.specs.declared.Refusal.{Refusal}
 use Rattle.list.specs.List as list
 use Rattle.list.specs.List.{nextLine, Listed, instructions, refusedIn, before, listFrom, readList, beforeAll}
-use Rattle.list.specs.Told.{toldNext}
-use Rattle.list.specs.declared.Next.the-variants.{End, One, Refused}
 use Rattle.list.proofs.LineLaws.{line-inside}
 use Rattle.list.proofs.ListLaws.{next-line, all-before, all-refused}
-use Rattle.filler.specs.Lines.{cycleRows}
+use Rattle.lines.specs.Lines.{rowsOfClaims}
 
--- ---- what the code holds of a line
-
--- the list ends
-pub told-end : (l : ℕ) (x : list.Next) → toldNext l x ≡ End → x ≡ list.end
-told-end l list.end e = refl
-told-end l (list.one i q) e = clash cc
-told-end l (list.refused n q) e = clash cc
-
--- an instruction, and the place after its line
-pub told-one : (l : ℕ) (x : list.Next) {i : code.Instruction} {q : ℕ} → toldNext l x ≡ One i q
-    → (j : Instruction) × (x ≡ list.one j q) × (i ≡ toldInstruction j)
-told-one l list.end e = clash cc
-told-one l (list.one j r) e = (j, cc, cc)
-told-one l (list.refused n r) e = clash cc
-
--- a line that is refused, by the number of the refusal
-pub told-refused : (l : ℕ) (x : list.Next) {w : Refusal} {q : ℕ} → toldNext l x ≡ Refused w q
-    → (n : ℕ) × (x ≡ list.refused n q) × (w ≡ inLine n l)
-told-refused l list.end e = clash cc
-told-refused l (list.one i r) e = clash cc
-told-refused l (list.refused n r) e = (n, cc, cc)
+-- ---- the claim of a line, and the rows of its cycle
 
 -- the code's claim of an instruction is its claim
 pub claim-back : (i : Instruction) → plainClaim (toldClaim (claimOf (plainInstruction (toldInstruction i)))) ≡ claimOf i
@@ -59,7 +35,7 @@ pub claim-told : (i : Instruction) {x : code.Instruction} {c : code-claim.Claim}
 claim-told i e h = rw (h, e) (claim-back i)
 
 -- the cycles of one claim more have its rows more
-pub rows-snoc : (cs : List Claim) (c : Claim) → cycleRows (cs ++ (c ∷ [])) ≡ cycleRows cs + suc (lastOf c)
+pub rows-snoc : (cs : List Claim) (c : Claim) → rowsOfClaims (cs ++ (c ∷ [])) ≡ rowsOfClaims cs + suc (lastOf c)
 unfolding trace
 rows-snoc cs c = rw (trace-snoc 0 cs c, length-append, length-cycle)
 

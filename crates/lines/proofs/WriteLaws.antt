@@ -33,9 +33,9 @@ use Rattle.list.specs.List.{Next, one, nextLine}
 use Rattle.list.specs.Told.{toldNext}
 use Rattle.list.specs.declared.Next.the-variants.{One}
 use Rattle.list.proofs.ListLaws.{list-valid}
-use Rattle.filler.specs.Lines.{cycleRows, Lists, claimsListed, listClaims}
-use Rattle.filler.proofs.ReadLaws.{claim-told, rows-snoc, Comes, Reached, reached-start, reached-next, reached-more, reached-all}
-use Rattle.filler.proofs.RecallLaws.{traceRow, notes-empty, notes-claim, recalled-after}
+use Rattle.lines.specs.Lines.{rowsOfClaims, Lists, claimsListed, listClaims}
+use Rattle.lines.proofs.ReadLaws.{claim-told, rows-snoc, Comes, Reached, reached-start, reached-next, reached-more, reached-all}
+use Rattle.lines.proofs.RecallLaws.{traceRow, notes-empty, notes-claim, recalled-after}
 
 -- ---- zeros
 
@@ -46,7 +46,7 @@ zero-more l i = rw (zero-add, length-replicate, replicate-append-replicate {A = 
 -- ---- the rows of claims
 
 -- claims and the one behind them have no more rows than these and others behind it
-rows-first : (cs ds : List Claim) (c : Claim) → cycleRows cs + suc (lastOf c) ≤ cycleRows (cs ++ (c ∷ ds))
+rows-first : (cs ds : List Claim) (c : Claim) → rowsOfClaims cs + suc (lastOf c) ≤ rowsOfClaims (cs ++ (c ∷ ds))
 unfolding cyclesOf
 rows-first cs ds c = rw (cycles-append, length-append, length-append, length-cycle) (omega arith)
 
@@ -56,7 +56,7 @@ valid-first cs ds v = rw (take-append-seam cs ds) at (valid-take (length cs) (cs
 
 -- where the rows of claims are written behind empty rows, the rows of their trace are read
 read-trace : {buf : List ℕ} (l : List ℕ) (n : ℕ) (cs : List Claim) → take (n * rowBytes) l ≡ bytesOf (replicate n emptyRow)
-    → buf ≡ sets l (n * rowBytes) (bytesOf (cyclesOf 1 fresh cs)) → AllFit (trace n cs) → (n + cycleRows cs) * rowBytes ≤ length l
+    → buf ≡ sets l (n * rowBytes) (bytesOf (cyclesOf 1 fresh cs)) → AllFit (trace n cs) → (n + rowsOfClaims cs) * rowBytes ≤ length l
     → (j : ℕ) → j < length (trace n cs) → rowAt buf j ≡ traceRow n cs j
 unfolding trace
 read-trace {buf} l n cs empty bytes fit room j h =
@@ -73,7 +73,7 @@ read-trace {buf} l n cs empty bytes fit room j h =
 pub record Filling (t l buf notes : List ℕ) (first at row k : ℕ) : Type 0 where
   pub done : List Instruction
   pub reached : Reached t done k at
-  pub rows : row ≡ first + cycleRows (map claimOf done)
+  pub rows : row ≡ first + rowsOfClaims (map claimOf done)
   pub bytes : buf ≡ sets l (first * rowBytes) (bytesOf (cyclesOf 1 fresh (map claimOf done)))
   pub noted : Notes notes (traceRow first (map claimOf done)) row
 
@@ -118,8 +118,8 @@ pub record Turn (t l buf notes : List ℕ) (first lines at row k q : ℕ) (i : c
   pub lists : Lists t lines
   pub some : 0 < first
   pub empty : take (first * rowBytes) l ≡ bytesOf (replicate first emptyRow)
-  pub few : first + cycleRows (listClaims t) ≤ maxRows
-  pub room : (first + cycleRows (listClaims t)) * rowBytes ≤ length l
+  pub few : first + rowsOfClaims (listClaims t) ≤ maxRows
+  pub room : (first + rowsOfClaims (listClaims t)) * rowBytes ≤ length l
   pub filling : Filling t l buf notes first at row k
   pub less : k < lines
   pub told : toldNext (k + 1) (nextLine t at) ≡ One i q
@@ -154,7 +154,7 @@ module _ {t l buf notes : List ℕ} {first lines at row k q : ℕ} {i : code.Ins
   claims-parts : listClaims t ≡ claims ++ (next ∷ later)
   claims-parts = claims-each (turn .lists) ∙ ap (map claimOf) (more .4) ∙ map-append claimOf (f .done) (more .0 ∷ more .2)
 
-  rows-there : cycleRows claims + suc (lastOf next) ≤ cycleRows (listClaims t)
+  rows-there : rowsOfClaims claims + suc (lastOf next) ≤ rowsOfClaims (listClaims t)
   rows-there = rw claims-parts (rows-first claims later next)
 
   valid : Valid claims
@@ -214,7 +214,7 @@ module _ {t l buf notes : List ℕ} {first lines at row k q : ℕ} {i : code.Ins
   filling-next {m} {noted} {n} count e g =
       let with : map claimOf (f .done ++ (more .0 ∷ [])) ≡ claims ++ (next ∷ []) = map-append claimOf (f .done) (more .0 ∷ []) in
       let rows : cyclesOf 1 fresh (claims ++ (next ∷ [])) ≡ cyclesOf 1 fresh claims ++ cycleAfter claims next = trace-snoc 0 claims next in
-      let written : m ≡ sets buf ((first + cycleRows claims) * rowBytes) (bytesOf (cycleAfter claims next)) =
+      let written : m ≡ sets buf ((first + rowsOfClaims claims) * rowBytes) (bytesOf (cycleAfter claims next)) =
       e ∙ ap₂ (λ (p : ℕ) (xs : List Cells). sets buf (p * rowBytes) (bytesOf xs)) (f .rows) cycle-is in
       let end : row + n ≡ length (trace first claims) + suc (lastOf next) = omega (arith, row-is, count, ap lastOf own) in
       let last : suc (row + n - 1) ≡ length (trace first claims) + suc (lastOf next) = omega (arith, end) in
@@ -224,6 +224,6 @@ module _ {t l buf notes : List ℕ} {first lines at row k q : ℕ} {i : code.Ins
         done = f .done ++ (more .0 ∷ []);
         reached = reached-next (f .reached) (more .3 ∙ ap (one (more .0)) (sym (held-is .1))) .0;
         rows = rw (with, rows-snoc claims next) (omega (arith, f .rows, count, ap lastOf own));
-        bytes = rw (with, rows) (write-more l first (cycleRows claims) (cyclesOf 1 fresh claims) (cycleAfter claims next) refl (f .bytes) written);
+        bytes = rw (with, rows) (write-more l first (rowsOfClaims claims) (cyclesOf 1 fresh claims) (cycleAfter claims next) refl (f .bytes) written);
         noted = rw (with, latest, end) (notes-claim first claims next noted-there);
       }

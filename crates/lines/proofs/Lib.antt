@@ -1,0 +1,4 @@
+-- The laws and theorems of `lines` that belong to no one function.
+pub mod ReadLaws
+pub mod RecallLaws
+pub mod WriteLaws
