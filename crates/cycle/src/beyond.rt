@@ -9,11 +9,10 @@ ghost use Rattle.number.specs.Whole.{val};
 ghost use Rattle.model.specs.Columns.{rowBytes, bytesOf};
 ghost use Rattle.model.specs.Constraints.{outLast};
 ghost use Rattle.model.specs.State.{Sound};
-ghost use Rattle.model.specs.Trace.{inBounds, outRow, cycleOf};
+ghost use Rattle.model.specs.Trace.{inBounds, beyondBy, outRow, cycleOf};
 ghost use Rattle.row.specs.Plain.{plain};
 ghost use Rattle.state.specs.Plain.{state};
 ghost use Rattle.claim.specs.Told.{plainClaim};
-ghost use Rattle.cycle.specs.Numbers.{beyond};
 use claim::claim::Claim;
 use model::OUT_LAST;
 use number::wide::Wide;
@@ -30,7 +29,7 @@ use writer::put_row;
 
 // How far the first end that is out of bounds is beyond the bound.
 fn beyond_by(c: Claim) -> Wide
-    ensures { λ r. ⌜ val r ≡ beyond (plainClaim c) ⌝ }
+    ensures { λ r. ⌜ val r ≡ beyondBy (plainClaim c) ⌝ }
 {
     if in_bounds(c.end1) {
         minus_bound(c.end2)
@@ -42,8 +41,8 @@ fn beyond_by(c: Claim) -> Wide
 // Row i, whose BYTE1 and ACC1 are these.
 fn row_of(stamp: u32, s: State, c: Claim, i: u8, byte: u8, acc: Wide) -> Row
     requires { ⌜ Sound (state s) ⌝ }
-    requires { ⌜ byte ≡ digitAt outLast (beyond (plainClaim c)) i ⌝ }
-    requires { ⌜ val acc ≡ prefixAt outLast (beyond (plainClaim c)) i ⌝ }
+    requires { ⌜ byte ≡ digitAt outLast (beyondBy (plainClaim c)) i ⌝ }
+    requires { ⌜ val acc ≡ prefixAt outLast (beyondBy (plainClaim c)) i ⌝ }
     ensures { λ r. ⌜ plain r ≡ outRow stamp (state s) (plainClaim c) i ⌝ }
 {
     let none = empty_row();

@@ -103,10 +103,14 @@ inRow atLeast grown stamp s c i =
 unfoldable pub beyondEnd : Claim → ℕ
 beyondEnd c = pick (leb bound (c .end1)) (c .end1) (c .end2)
 
+-- how far it is beyond the bound
+abbrev pub beyondBy : Claim → ℕ
+beyondBy c = beyondEnd c - bound
+
 -- row i of the cycle of an out-of-bounds claim: it carries the state on, and its ACC1 shows how far an end is beyond the bound
 unfoldable pub outRow : ℕ → State → Claim → ℕ → Cells
 outRow stamp s c i =
-    let d : ℕ = beyondEnd c - bound in
+    let d : ℕ = beyondBy c in
     record {
       stamp = stamp;
       cn = c .context .cn;
@@ -142,10 +146,17 @@ outRow stamp s c i =
 
 -- ---- cycles and traces
 
+-- whether the first end is at least the second, and whether the end t is above the bytes reached
+abbrev pub isAtLeast : Claim → Bool
+isAtLeast c = leb (c .end2) (c .end1)
+
+abbrev pub isGrown : State → ℕ → Bool
+isGrown s t = ltb (s .mem) t
+
 -- row i of the cycle of a claim: the answers of the two comparisons, where it is in bounds
 unfoldable pub rowOf : ℕ → State → Claim → ℕ → Cells
 rowOf stamp s c i =
-    pick (inBounds c) (inRow (leb (c .end2) (c .end1)) (ltb (s .mem) (top c)) stamp s c i) (outRow stamp s c i)
+    pick (inBounds c) (inRow (isAtLeast c) (isGrown s (top c)) stamp s c i) (outRow stamp s c i)
 
 -- the rows of one claim
 unfoldable pub cycleOf : ℕ → State → Claim → List Cells

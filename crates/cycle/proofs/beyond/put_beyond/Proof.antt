@@ -13,10 +13,9 @@ use Rattle.number.specs.Whole.{val}
 use Rattle.number.proofs.WholeLaws.{val-lt}
 use Rattle.model.specs.Columns.{rowBytes, table, bytesOf}
 use Rattle.model.specs.Constraints.{outLast}
-use Rattle.model.specs.Trace.{outRow}
+use Rattle.model.specs.Trace.{beyondBy, outRow}
 use Rattle.state.specs.Plain.{state}
 use Rattle.claim.specs.Told.{plainClaim}
-use Rattle.cycle.specs.Numbers.{beyond}
 use Rattle.cycle.proofs.CycleLaws.{cycle-of, rows-next}
 use Rattle.cycle.proofs.ShiftLaws.{Shifted, shift-none, shift-next}
 use Rattle.cycle.proofs.beyond.put_beyond.Statement.{statement}
@@ -24,7 +23,7 @@ use Rattle.cycle.proofs.beyond.put_beyond.Tie as tie
 
 abbrev Inv-loop : tie.InvT-loop
 Inv-loop buf₀ row stamp s c rest₀ acc₀ i₀ buf rest acc i =
-    (i ≤ suc outLast) × (length buf ≡ length buf₀) × Shifted outLast (beyond (plainClaim c)) i (val acc) (val rest)
+    (i ≤ suc outLast) × (length buf ≡ length buf₀) × Shifted outLast (beyondBy (plainClaim c)) i (val acc) (val rest)
     × (buf ≡ sets buf₀ (row * rowBytes) (bytesOf (table i (outRow stamp (state s) (plainClaim c)))))
 
 abbrev μ-loop : tie.MeasureT-loop

@@ -4,12 +4,11 @@ use mathlib.Core.Path.{ap}
 use native.Mathlib.Omega.{arith}
 use borrow.Author.Needs.{needs}
 use Rattle.gas.specs.Gas.{Parts}
-use Rattle.model.specs.Trace.{top, inRow}
+use Rattle.model.specs.Trace.{top, isGrown, inRow}
 use Rattle.model.proofs.FitLaws.{square-lt}
 use Rattle.model.proofs.StateLaws.{top-lt}
 use Rattle.state.specs.Plain.{state}
 use Rattle.claim.specs.Told.{plainClaim}
-use Rattle.cycle.specs.Numbers.{grown}
 use Rattle.cycle.proofs.within.tail_of.Statement.{statement}
 use Rattle.cycle.proofs.within.tail_of.Tie as tie
 
@@ -19,7 +18,7 @@ cast-q2 c =
     let m = start .args .m in
     let made = start .pre in
     let t = top (plainClaim (m .claim)) in
-    let fits = square-lt (grown (state (m .before)) t) t (top-lt (plainClaim (m .claim)) (made .within)) in
+    let fits = square-lt (isGrown (state (m .before)) t) t (top-lt (plainClaim (m .claim)) (made .within)) in
     omega (arith, fits, ap (λ (p : Parts). p .q2) (made .growth .square))
 
 cast-high : tie.Need-cast-high
