@@ -36,8 +36,10 @@ shared-slice-read-if2 c = search needs
 
 returns-2 : tie.Need-returns-2 Inv-loop μ-loop
 returns-2 c =
-    let l = c .before .before .before .before .before .loop in
-    let a = c .before .before .before .before .before .before .args in
+    let turn = c .before .before .before .before .before in
+    let start = turn .before in
+    let l = turn .loop in
+    let a = start .args in
     let here = char-in (a .t .now) (l .at) (search needs) in
     sym (text-differs (a .name .now) (a .t .now) (l .i) (l .at) (search needs) (λ e. c .if2 .taken (sym here ∙ e))) ∙ l .inv .1
 
@@ -52,8 +54,10 @@ loop-less c = search needs
 
 loop-again : tie.Need-loop-again Inv-loop μ-loop
 loop-again c =
-    let l = c .before .before .before .before .before .loop in
-    let a = c .before .before .before .before .before .before .args in
+    let turn = c .before .before .before .before .before in
+    let start = turn .before in
+    let l = turn .loop in
+    let a = start .args in
     let here = char-in (a .t .now) (l .at) (search needs) in (
       search needs,
       rw (add-one, add-one) (sym (text-agrees (a .name .now) (a .t .now) (l .i) (l .at) (search needs) (here ∙ c .if2 .left)) ∙ l .inv .1),

@@ -46,8 +46,10 @@ is-digit-requires c κs = search needs
 
 returns-2 : tie.Need-returns-2 Inv-loop μ-loop
 returns-2 c =
-    let l = c .before .before .before .before .before .loop in
-    let a = c .before .before .before .before .before .before .before .before .args in
+    let turn = c .before .before .before .before .before in
+    let start = turn .before .before .before in
+    let l = turn .loop in
+    let a = start .args in
     let here = char-in (a .t .now) (l .at) (search needs) in
     let no : isDigit (charAt (a .t .now) (l .at)) ≡ false = ap isDigit here ∙ sym (c .before .is-digit .ensures) ∙ not-true _ (c .if2 .taken) in
     (sym (run-ends (a .t .now) _ (whole (l .value)) (l .at) no) ∙ l .inv .3, l .inv .1)
@@ -72,8 +74,10 @@ loop-less c = search needs
 loop-again : tie.Need-loop-again Inv-loop μ-loop
 loop-again c =
     let test = c .before .before in
-    let l = test .before .before .before .before .before .loop in
-    let a = test .before .before .before .before .before .before .before .before .args in
+    let turn = test .before .before .before .before .before in
+    let start = turn .before .before .before in
+    let l = turn .loop in
+    let a = start .args in
     let d = c .before .digit-of .result in
     let here = char-in (a .t .now) (l .at) (search needs) in
     let yes : isDigit (charAt (a .t .now) (l .at)) ≡ true =

@@ -32,7 +32,9 @@ enum-known-line : tie.Need-enum-known-line Inv-loop μ-loop
 enum-known-line c = search needs
 
 same-length : tie.Need-same-length Inv-loop μ-loop
-same-length c = length-kept (c .before .before .before .loop .inv .1)
+same-length c =
+    let l = c .before .before .before in
+    length-kept (l .loop .inv .1)
 
 returns : tie.Need-returns Inv-loop μ-loop
 returns c =
@@ -77,8 +79,12 @@ put-claim-requires c κs = next-asked (turn (c .before .before))
 rows-of-requires : tie.Need-rows-of-requires Inv-loop μ-loop
 rows-of-requires c κs = search needs
 
+-- where that claim was made, from where its rows are known
+abbrev made : tie.After-rows-of Inv-loop μ-loop → tie.After-claim-of Inv-loop μ-loop
+made c = c .before .before .before .before .before .before
+
 add-row : tie.Need-add-row Inv-loop μ-loop
-add-row c = omega (arith, rows-within (turn (c .before .before .before .before .before .before)), c .rows-of .ensures)
+add-row c = omega (arith, rows-within (turn (made c)), c .rows-of .ensures)
 
 sub-note : tie.Need-sub-note Inv-loop μ-loop
 sub-note c = omega (arith, c .before .rows-of .ensures)
@@ -86,10 +92,12 @@ sub-note c = omega (arith, c .before .rows-of .ensures)
 note-requires : tie.Need-note-requires Inv-loop μ-loop
 note-requires c κs =
     let rows = c .before in
-    omega (arith, rows-within (turn (rows .before .before .before .before .before .before)), rows .rows-of .ensures)
+    omega (arith, rows-within (turn (made rows)), rows .rows-of .ensures)
 
 add-done : tie.Need-add-done Inv-loop μ-loop
-add-done c = omega (arith, next-asked (turn (c .before .before .before .before .before .before .before .before)) .1 .0)
+add-done c =
+    let rows = c .before .before in
+    omega (arith, next-asked (turn (made rows)) .1 .0)
 
 loop-less : tie.Need-loop-less Inv-loop μ-loop
 loop-less c = search needs
@@ -98,13 +106,16 @@ loop-again : tie.Need-loop-again Inv-loop μ-loop
 loop-again c =
     let rows = c .before .before in
     let put = rows .before .before .before in
-    (search needs, rw add-one (filling-next (turn (put .before .before .before)) (rows .rows-of .ensures) (put .put-claim .ensures) (c .note .ensures)))
+    (search needs, rw add-one (filling-next (turn (made rows)) (rows .rows-of .ensures) (put .put-claim .ensures) (c .note .ensures)))
 
 same-length-2 : tie.Need-same-length-2 Inv-loop μ-loop
 same-length-2 c = length-kept (c .before .loop .inv .1)
 
 returns-2 : tie.Need-returns-2 Inv-loop μ-loop
-returns-2 c = filling-all (c .before .before .before .before .pre .0) (c .before .loop .inv .1) (search needs)
+returns-2 c =
+    let l = c .before in
+    let start = l .before .before .before in
+    filling-all (start .pre .0) (l .loop .inv .1) (search needs)
 
 pub put-lines-spec : {M : Type 1} → statement M
 put-lines-spec =

@@ -53,8 +53,10 @@ rows-of-requires c κs = search needs
 -- the line that was read is counted
 next : (c : tie.After-rows-of Inv-loop μ-loop)
     → let line = c .before .before .before in
-    let l = line .before .before .before .loop in
-    More (line .before .before .before .before .before .args .list .now) (l .at) (l .count) (l .rows) (line .line2 .given .0 .1 .0) (c .rows-of .result)
+    let turn = line .before .before .before in
+    let start = turn .before .before in
+    let l = turn .loop in
+    More (start .args .list .now) (l .at) (l .count) (l .rows) (line .line2 .given .0 .1 .0) (c .rows-of .result)
 next c =
     let line = c .before .before .before in
     let call = line .before .before in
