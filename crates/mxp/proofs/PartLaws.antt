@@ -8,13 +8,14 @@ use borrow.Author.Tests.{eq-eqb, ne-eqb}
 use lib.ListN.{length}
 use Rattle.number.specs.Num.{AllBytes}
 use Rattle.model.specs.Cycles.{step}
+use Rattle.part.proofs.StepLaws.{step-forward}
 use Rattle.trace.specs.Asked.{whereIs}
 use Rattle.trace.specs.Told.{partNumbers, toldPlace}
 use Rattle.trace.specs.declared.place.Place.{Place}
 use Rattle.trace.specs.declared.place.Place.the-variants.{At, Refused}
 use Rattle.trace.proofs.PlaceLaws.{told-stands}
 use Rattle.walker.specs.Walk.{stepNumbers}
-use Rattle.walker.proofs.StepLaws.{step-forward, numbers-stay, numbers-move, moved-inside}
+use Rattle.walker.proofs.NumberLaws.{numbers-stay, numbers-move, moved-inside}
 use Rattle.out.specs.Out.{stepBetween}
 use Rattle.out.proofs.OutLaws.{between-stays, between-moves}
 

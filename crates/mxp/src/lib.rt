@@ -12,10 +12,10 @@ use out::put_place;
 use out::put_start;
 use out::put_step;
 use out::put_verdict;
+use part::next_at;
 use state::Context;
 use trace::place::claim_at;
 use trace::place::place_of;
-use walker::next_at;
 use walker::start_of;
 
 // Checks a trace. Its answer: refused, line, 0, accepted, instructions, oob, empty, row, constraint.

@@ -22,6 +22,7 @@ pub mod Rules
 pub mod Meets
 pub mod Count
 pub mod Checker
+pub mod Part
 pub mod Trace
 pub mod Last
 pub mod Walker

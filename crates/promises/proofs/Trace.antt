@@ -5,7 +5,6 @@ use Rattle.promises.proofs.NoSecond.{NoSecond, no-second, equation, giv
 use Rattle.trace.proofs.admit.admit.Reads as admit
 use Rattle.trace.proofs.place.place_of.Reads as place-of
 use Rattle.trace.proofs.place.claim_at.Reads as claim-at
-use Rattle.trace.proofs.place.rows_from.Reads as rows-from
 use Rattle.trace.proofs.place.rows_of.Reads as rows-of
 
 -- the counts of an accepted trace, the place of instruction k and its claim
@@ -18,9 +17,6 @@ one-place-of = equation (λ a b. refl)
 pub one-claim-at : NoSecond claim-at.Post (ref given) answer
 one-claim-at = equation (λ a b. refl)
 
--- rows, told by their bytes; with them, why there are none
-pub one-rows-from : NoSecond rows-from.Post (ref given) (by now)
-one-rows-from = equation (λ a b. refl)
-
+-- its rows, told by their bytes, and why there are none
 pub one-rows-of : NoSecond rows-of.Post (ref (value (unseen given))) (both (by now) third)
 one-rows-of = no-second _ (λ κ a v e p. λ i. (p .0 i, p .1 i)) (λ a b. refl)

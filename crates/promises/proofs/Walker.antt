@@ -20,19 +20,11 @@ use Rattle.walker.proofs.open_walker as open-walker
 use Rattle.walker.proofs.step as step
 use Rattle.promises.proofs.NoSecond.{NoSecond, no-second, equation, Sight, given, ref, answer, by, both}
 use Rattle.walker.proofs.start_of.Reads as start-of
-use Rattle.walker.proofs.next_at.Reads as next-at
-use Rattle.walker.proofs.part_at.Reads as part-at
 use Rattle.walker.proofs.first_part.Reads as first-part
 
--- where a walker starts, and what a step from a row gives
+-- where a walker starts, and what its first step gives
 pub one-start-of : NoSecond start-of.Post (ref given) answer
 one-start-of = equation (λ a b. refl)
-
-pub one-next-at : NoSecond next-at.Post (ref given) answer
-one-next-at = equation (λ a b. refl)
-
-pub one-part-at : NoSecond part-at.Post (ref given) (by now)
-one-part-at = equation (λ a b. refl)
 
 pub one-first-part : NoSecond first-part.Post (ref given) (by now)
 one-first-part = equation (λ a b. refl)

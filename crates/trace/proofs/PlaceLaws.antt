@@ -1,5 +1,5 @@
 -- Where instruction k stands, case by case; and what is known where a place was told.
-use Prim.Native.Nat.{ℕ, zero, suc, _+_, _-_, _*_, _≤_, _<_}
+use Prim.Native.Nat.{ℕ, zero, suc, _+_, _*_, _≤_, _<_}
 use mathlib.Core.Bool.{Bool, true, false, _&&_}
 use mathlib.Core.List.{List}
 use mathlib.Core.Logic.{_⊎_, inl, inr}
@@ -7,11 +7,11 @@ use mathlib.Core.Path.{_≡_, refl, sym, _∙_, ap}
 use native.Mathlib.Omega.{arith}
 use borrow.Author.Tests.{leb-true, leb-false}
 use lib.Dec.{leb}
-use lib.ListN.{length, take, drop}
+use lib.ListN.{length}
 use Rattle.number.specs.Num.{AllBytes}
 use Rattle.number.proofs.TestLaws.{clash}
 use Rattle.model.specs.Columns.{rowBytes, rowAt, rowsOf}
-use Rattle.model.specs.Cycles.{cycleRows, Cycle, counts, instruction, part, isInstruction, nextRow}
+use Rattle.model.specs.Cycles.{cycleRows, Cycle, counts, instruction, isInstruction, nextRow}
 use Rattle.model.specs.Promises.{Accepted, claimsIn}
 use Rattle.model.specs.Verdict as model
 use Rattle.model.specs.Verdict.{Verdict, verdict}
@@ -107,12 +107,3 @@ told-stands l bytes k {first} {n} told = by (verdict l) refl
 pub told-refused : (a : Answer Cycle) {w : Refusal} → toldPlace a ≡ Refused w → (n : ℕ) × (w ≡ lineless n) × (a ≡ refused n)
 told-refused (given c) e = clash cc
 told-refused (refused n) e = (n, cc, refl)
-
--- ---- the bytes of a place
-
--- n rows from row i on, by their first byte and the byte after them
-pub part-between : (l : List ℕ) (i n : ℕ) → take (i * rowBytes + n * rowBytes - i * rowBytes) (drop (i * rowBytes) l) ≡ part l i n
-unfolding part
-part-between l i n =
-    let bytes : i * rowBytes + n * rowBytes - i * rowBytes ≡ n * rowBytes = omega arith in
-    rw bytes

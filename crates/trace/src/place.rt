@@ -1,18 +1,13 @@
 // Where instruction k of a trace stands, its rows and its claim.
 ghost use mathlib.Core.Path.{_≡_};
-ghost use mathlib.Core.Bool.{_&&_};
-ghost use Prim.Native.Nat.{_+_, _*_, _≤_};
-ghost use lib.Dec.{leb};
-ghost use lib.ListN.{length};
-ghost use Rattle.model.specs.Columns.{rowBytes, rowsOf};
-ghost use Rattle.model.specs.Cycles.{part, nextRow};
-ghost use Rattle.model.specs.Promises.{Accepted, emptyIn, claimsIn};
 ghost use Rattle.trace.specs.Asked.{whereIs, partOf, claimIn};
 ghost use Rattle.trace.specs.Told.{refusalOf, toldPlace, toldClaimed};
 use crate::admit::Admitted;
 use crate::admit::admit;
 use claim::claim::Claim;
-use model::ROW_BYTES;
+use part::is_among;
+use part::row_after;
+use part::rows_from;
 use refusal::Refusal;
 use row::read::read_row;
 use state::context_of;
@@ -31,29 +26,6 @@ pub enum Claimed {
     Refused(Refusal),
 }
 
-// The row after so many instructions of an accepted trace with so many empty rows.
-fn row_after(t: &[u8], empty: usize, passed: u64) -> usize
-    requires { ⌜ Accepted (now t) ⌝ }
-    requires { ⌜ empty ≡ emptyIn (now t) ⌝ }
-    requires { ⌜ passed ≤ length (claimsIn (now t)) ⌝ }
-    ensures { λ r. ⌜ r ≡ nextRow (rowsOf (now (t .entry))) passed ⌝ }
-{
-    let mut row = empty;
-    let mut i = 0;
-    while i < passed {
-        row += cycle_rows_at(t, row);
-        i += 1;
-    }
-    row
-}
-
-// Whether there is an instruction k (from 1) among so many.
-fn is_among(k: u64, instructions: u64) -> bool
-    ensures { λ r. ⌜ r ≡ (leb 1 k && leb k instructions) ⌝ }
-{
-    (1 <= k) & (k <= instructions)
-}
-
 // Where instruction k (from 1) stands. Every trace and number has an answer.
 pub fn place_of(t: &[u8], k: u64) -> Place
     ensures { λ r. ⌜ r ≡ toldPlace (whereIs (now (t .entry)) k) ⌝ }
@@ -70,17 +42,6 @@ pub fn place_of(t: &[u8], k: u64) -> Place
             Place::Refused(refusal::no_instruction())
         }
     }
-}
-
-// So many rows of the trace from a row on, as a part of the trace itself. Only crates of this repository call this function: it asks that the rows
-// are there.
-pub fn rows_from<'a>(t: &'a [u8], first: usize, rows: usize) -> &'a [u8]
-    requires { ⌜ (first + rows) * rowBytes ≤ length (now t) ⌝ }
-    ensures { λ r. ⌜ now r ≡ part (now (t .entry)) first rows ⌝ }
-{
-    let from = first * ROW_BYTES;
-    let to = from + rows * ROW_BYTES;
-    &t[from..to]
 }
 
 // The rows of instruction k as a part of the trace itself, and the number of its refusal: 0 and so many rows, or an empty part.

@@ -1,5 +1,5 @@
 -- The laws and theorems of `walker` that belong to no one function.
-pub mod StepLaws
+pub mod NumberLaws
 pub mod Called
 pub mod Held
 pub mod Lent

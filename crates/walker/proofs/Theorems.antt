@@ -13,8 +13,9 @@ use Rattle.model.specs.Verdict.{verdict, broken, maxRows, badLength, tooManyRow
 use Rattle.model.proofs.InstructionLaws.{step-is, step-end}
 use Rattle.model.proofs.VerdictLaws.{refused-length, refused-rows}
 use Rattle.refusal.specs.Refusals.{noRefusal, lineless, notAccepted}
+use Rattle.part.proofs.StepLaws.{step-stays, step-part, step-forward}
 use Rattle.walker.specs.Walk.{startOf, Begun, begun, firstPart, walk, StepNumbers, stepNumbers}
-use Rattle.walker.proofs.StepLaws.{step-stays, step-part, step-forward, numbers-stay, numbers-move}
+use Rattle.walker.proofs.NumberLaws.{numbers-stay, numbers-move}
 
 -- ---- opened
 

@@ -1,14 +1,11 @@
 // A walker over a lent trace: it holds the trace and the next row, and each step gives one cycle.
 ghost use mathlib.Core.Path.{_≡_};
-ghost use Prim.Native.Nat.{_+_};
-ghost use Rattle.model.specs.Cycles.{step};
 ghost use Rattle.walker.specs.Walk.{startOf, toldStart, walkedBytes, begun, opened, Steps, firstPart};
-use model::ROW_BYTES;
+use part::next_at;
+use part::part_at;
 use refusal::Refusal;
-use state::look::cycle_rows_at;
 use trace::admit::Admitted;
 use trace::admit::admit;
-use trace::place::rows_from;
 
 // The lent trace and the next row.
 pub struct Walker<'a> {
@@ -50,39 +47,6 @@ fn walked<'a>(t: &'a [u8], why: Refusal) -> &'a [u8]
         return &t[0..0];
     }
     t
-}
-
-// How many rows a step from this row gives: those of its cycle, or none if so many whole rows don't remain.
-fn rows_given(t: &[u8], next: usize) -> usize
-    ensures { λ r. ⌜ next + r ≡ step (now (t .entry)) next .next ⌝ }
-{
-    let whole = t.len() / ROW_BYTES;
-    if whole <= next {
-        return 0;
-    }
-    let rows = cycle_rows_at(t, next);
-    if whole - next < rows {
-        return 0;
-    }
-    rows
-}
-
-// The part of the trace that a step from this row gives.
-pub fn part_at<'a>(t: &'a [u8], next: usize) -> &'a [u8]
-    ensures { λ r. ⌜ now r ≡ step (now (t .entry)) next .part ⌝ }
-{
-    let rows = rows_given(t, next);
-    if rows == 0 {
-        return &t[0..0];
-    }
-    rows_from(t, next, rows)
-}
-
-// The row where a step from this row goes.
-pub fn next_at(t: &[u8], next: usize) -> usize
-    ensures { λ r. ⌜ r ≡ step (now (t .entry)) next .next ⌝ }
-{
-    next + rows_given(t, next)
 }
 
 // A walker over a lent trace. The trace is checked here, and by no step.

@@ -2,7 +2,7 @@
 use mathlib.Core.Path.{_∙_, ap}
 use native.Mathlib.Omega.{arith}
 use borrow.Author.Needs.{needs}
-use Rattle.walker.proofs.StepLaws.{step-forward}
+use Rattle.part.proofs.StepLaws.{step-forward}
 use Rattle.out.specs.Out.{stepList}
 use Rattle.mxp.proofs.PartLaws.{step-between, between-inside}
 use Rattle.mxp.proofs.mxp_step.Statement.{statement}

@@ -44,19 +44,19 @@ use denote.Triple.Spec.{Meets, tripleOf}
 use denote.Triple.Table.{entered, cited}
 use denote.Triple.Walked.{says, Stays, stay-ref, walkOf, goes-ref, Walks, ends-at, walked, walk-meets}
 use Rattle.model.specs.Cycles as model
+use Rattle.part.proofs.next_at as next
+use Rattle.part.proofs.next_at.Symbol as next-def
+use Rattle.part.proofs.next_at.Symbol.{name as #part·next-at}
+use Rattle.part.proofs.next_at.Met as next-thm
+use Rattle.part.proofs.part_at as part
+use Rattle.part.proofs.part_at.Symbol as part-def
+use Rattle.part.proofs.part_at.Symbol.{name as #part·part-at}
+use Rattle.part.proofs.part_at.Met as part-thm
 use Rattle.walker.specs.declared.Walker.{Walker}
 use Rattle.walker.proofs.Called.{SliceOwns, Token, passes, var, knows, number, returned}
 use Rattle.walker.proofs.Held.{body, WalkerAt, WalkerOwns, walker-made, trace-of}
 use Rattle.walker.proofs.Walker as T
 use Rattle.walker.proofs.Walker.Laws as T′
-use Rattle.walker.proofs.next_at as next
-use Rattle.walker.proofs.next_at.Symbol as next-def
-use Rattle.walker.proofs.next_at.Symbol.{name as #walker·next-at}
-use Rattle.walker.proofs.next_at.Met as next-thm
-use Rattle.walker.proofs.part_at as part
-use Rattle.walker.proofs.part_at.Symbol as part-def
-use Rattle.walker.proofs.part_at.Symbol.{name as #walker·part-at}
-use Rattle.walker.proofs.part_at.Met as part-thm
 use Rattle.walker.proofs.step.Key.{name as #walker·step}
 use Rattle.walker.proofs.step as step
 use Rattle.walker.proofs.step.Statement as stated
@@ -117,8 +117,8 @@ module _ {M : Type 1} (𝓤 : URA M) (H : Heap 𝓤) (A : Atoms 𝓤) (W : Given
       move ! (2 ∷ 4 ∷ []) $ join ! $ frame ! $ feqI ! (List Val) (vptr b o ∷ []) (vptr b o ∷ []) refl $ fjoin3 ! $ nothing ! $ move ! (1 ∷ 0 ∷ []) $
       fjoin ! $ frame ! $ done !
 
-  module _ (C : Calls 𝓤 H) (Λ : Loops 𝓤 H) (fm : FmC 𝓤 H (W .laws) C) (known-next : Triple 𝓤 (C #walker·next-at) (NextAt 𝓤 H A at-mem run))
-      (known-part : Triple 𝓤 (C #walker·part-at) (PartAt 𝓤 H A at-mem run)) where
+  module _ (C : Calls 𝓤 H) (Λ : Loops 𝓤 H) (fm : FmC 𝓤 H (W .laws) C) (known-next : Triple 𝓤 (C #part·next-at) (NextAt 𝓤 H A at-mem run))
+      (known-part : Triple 𝓤 (C #part·part-at) (PartAt 𝓤 H A at-mem run)) where
     walk : ent 𝓤 (onEntry 𝓤 H A step.signature (κ, (κ′, tt)) (q, (q′, tt)) x at) (WpFn 𝓤 H C Λ code.function (vptr b o ∷ []) Post)
     walk =
         qed W ((‵ (flft κ q) ⊛ Token κ′ q′) ∷ ‵ (owns (MutRef (named 0) κ (WalkerAt κ′) ∷ []) x at) ∷ []) ∵
@@ -170,8 +170,8 @@ module _ {M : Type 1} (𝓤 : URA M) (H : Heap 𝓤) (A : Atoms 𝓤) (W : Given
         keep ! (0 ∷ 1 ∷ 2 ∷ 3 ∷ 4 ∷ []) $ by ! (exits n r u moves gives))))))))))))))
 
 module _ {M : Type 1} (𝓤 : URA M) (H : Heap 𝓤) (A : Atoms 𝓤) (W : Given 𝓤 H A) (mem : Memory → SProp 𝓤) (run : Routine → Fun 𝓤) where
-  step-walks : (C : Calls 𝓤 H) (Λ : Loops 𝓤 H) → FmC 𝓤 H (W .laws) C → Triple 𝓤 (C #walker·next-at) (NextAt 𝓤 H A mem run)
-      → Triple 𝓤 (C #walker·part-at) (PartAt 𝓤 H A mem run)
+  step-walks : (C : Calls 𝓤 H) (Λ : Loops 𝓤 H) → FmC 𝓤 H (W .laws) C → Triple 𝓤 (C #part·next-at) (NextAt 𝓤 H A mem run)
+      → Triple 𝓤 (C #part·part-at) (PartAt 𝓤 H A mem run)
       → Walks 𝓤 H A step.ended stayed (WpFn 𝓤 H C Λ code.function) (step.clauses 𝓤 H A mem run)
   step-walks C Λ fm known-next known-part = walked 𝓤 H A step.ended stayed (step.clauses 𝓤 H A mem run) (WpFn 𝓤 H C Λ code.function)
       (λ κs. (ptr-vals, tt)) (λ κs. (mut-tells (named 0) (κs .0) (WalkerAt (κs .1 .0)), tt))
@@ -179,7 +179,7 @@ module _ {M : Type 1} (𝓤 : URA M) (H : Heap 𝓤) (A : Atoms 𝓤) (W : Given
       (a .0 .ptr .1) (a .0 .name) (a .0 .now) C Λ fm known-next known-part))
 
 step-meets : {M : Type 1} (𝓤 : URA M) (H : Heap 𝓤) (A : Atoms 𝓤) (W : Given 𝓤 H A) (mem : Memory → SProp 𝓤) (run : Routine → Fun 𝓤) (𝓣 : Tables 𝓤 H)
-    → Triple 𝓤 (𝓣 .C #walker·next-at) (NextAt 𝓤 H A mem run) → Triple 𝓤 (𝓣 .C #walker·part-at) (PartAt 𝓤 H A mem run)
+    → Triple 𝓤 (𝓣 .C #part·next-at) (NextAt 𝓤 H A mem run) → Triple 𝓤 (𝓣 .C #part·part-at) (PartAt 𝓤 H A mem run)
     → Meets 𝓤 H A step.signature (WpFn 𝓤 H (𝓣 .C) (𝓣 .Λ) code.function) (step.spec 𝓤 H A mem run)
 step-meets 𝓤 H A W mem run 𝓣 known-next known-part = walk-meets 𝓤 H A step.ended stayed W (goes-ref 𝓤 H A W 2 0 tt behind, tt)
     (step.clauses 𝓤 H A mem run) (WpFn 𝓤 H (𝓣 .C) (𝓣 .Λ) code.function) (WpFn-mono 𝓤 H (W .laws) 𝓣 code.function)
@@ -191,6 +191,6 @@ step-spec 𝓤 H 𝓜 𝓖 𝓡 =
     entered 𝓤 H (tripleOf 𝓤 H (𝓖 .A) step.signature (step.spec 𝓤 H (𝓖 .A) (𝓜 .mem) (𝓡 .run)))
     (tables 𝓤 H 𝓜 𝓡 code.env .C) (tables 𝓤 H 𝓜 𝓡 code.env .Λ) #walker·step code.function (code.unfolded 𝓤 H 𝓜 𝓡)
     (step-meets 𝓤 H (𝓖 .A) (givenOf 𝓤 H 𝓜 𝓖) (𝓜 .mem) (𝓡 .run) (tablesOf 𝓤 H 𝓜 (tables 𝓤 H 𝓜 𝓡 code.env))
-    (cited 𝓤 H (NextAt 𝓤 H (𝓖 .A) (𝓜 .mem) (𝓡 .run)) 𝓜 𝓡 code.env #walker·next-at next-def.routine code.calls-walker·next-at (next-thm.met 𝓤 H 𝓜 𝓖 𝓡))
-    (cited 𝓤 H (PartAt 𝓤 H (𝓖 .A) (𝓜 .mem) (𝓡 .run)) 𝓜 𝓡 code.env #walker·part-at part-def.routine code.calls-walker·part-at
+    (cited 𝓤 H (NextAt 𝓤 H (𝓖 .A) (𝓜 .mem) (𝓡 .run)) 𝓜 𝓡 code.env #part·next-at next-def.routine code.calls-part·next-at (next-thm.met 𝓤 H 𝓜 𝓖 𝓡))
+    (cited 𝓤 H (PartAt 𝓤 H (𝓖 .A) (𝓜 .mem) (𝓡 .run)) 𝓜 𝓡 code.env #part·part-at part-def.routine code.calls-part·part-at
     (part-thm.met 𝓤 H 𝓜 𝓖 𝓡)))

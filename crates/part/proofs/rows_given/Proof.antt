@@ -3,9 +3,9 @@ use mathlib.Core.Path.{sym}
 use native.Mathlib.Nat.{add-zero}
 use native.Mathlib.Omega.{arith}
 use borrow.Author.Needs.{needs}
-use Rattle.walker.proofs.StepLaws.{step-moves, step-stays}
-use Rattle.walker.proofs.rows_given.Statement.{statement}
-use Rattle.walker.proofs.rows_given.Tie as tie
+use Rattle.part.proofs.StepLaws.{step-moves, step-stays}
+use Rattle.part.proofs.rows_given.Statement.{statement}
+use Rattle.part.proofs.rows_given.Tie as tie
 
 returns : tie.Need-returns
 returns c = rw add-zero (sym (step-stays _ _ (omega (arith, c .if1 .taken))))

@@ -1,23 +1,19 @@
--- What a step gives and where it goes, by how many rows remain.
+-- What a step gives and where it goes, by how many rows remain; and the bytes of rows.
 use Prim.Native.Nat.{ℕ, _+_, _*_, _-_, _/_, _≤_, _<_, max}
 use mathlib.Core.Bool.{Bool, true, false}
 use mathlib.Core.List.{List, []}
 use mathlib.Core.Path.{_≡_, refl}
 use native.Mathlib.Omega.{arith}
-use borrow.Author.Tests.{le-leb, lt-leb, leb-true, ne-eqb}
-use lib.Dec.{leb, eqb}
-use lib.ListN.{length, length-take, length-drop}
+use borrow.Author.Tests.{le-leb, lt-leb, leb-true}
+use lib.Dec.{leb}
+use lib.ListN.{length, take, drop}
 use Rattle.model.specs.Columns.{rowBytes, rowAt}
 use Rattle.model.specs.Cycles.{cycleRows, part, Stepped, step}
 use Rattle.model.specs.Tests.{pick}
-use Rattle.walker.specs.Walk.{stepNumbers}
+
+-- ---- a step
 
 module _ (l : List ℕ) (i : ℕ) where
-  -- so many rows are so many bytes
-  length-part : (n : ℕ) → i * rowBytes + n * rowBytes ≤ length l → length (part l i n) ≡ n * rowBytes
-  unfolding part
-  length-part n h = rw (length-take, length-drop) (omega (arith, h))
-
   -- the rows of the cycle of row i, and the whole rows of the bytes
   abbrev rows : ℕ
   rows = cycleRows (rowAt l i)
@@ -68,28 +64,11 @@ module _ (l : List ℕ) (i : ℕ) where
       by true = omega arith
       by false = omega arith
 
-  -- ---- by the row m where it goes
-  module _ (m : ℕ) (goes : m ≡ step l i .next) where
-    between : step l i .part ≡ part l i (m - i)
-    between = step-part (m - i) (omega (arith, goes, step-forward))
+-- ---- the bytes of rows
 
-    -- a step that does not move gives nothing
-    pub numbers-stay : m ≡ i → stepNumbers i (step l i) ≡ record { from = 0; bytes = 0; next = i }
-    unfolding part
-    numbers-stay e =
-        let none : m - i ≡ 0 = omega arith in
-        rw (between, ← goes, none, e)
-
-    module _ (on : m ≡ i → ⊥) where
-      -- where a step goes on, the rows are there
-      pub moved-inside : m * rowBytes ≤ length l
-      moved-inside = omega (arith, goes, step-inside, step-forward, on)
-
-      -- and it gives them all
-      pub numbers-move : stepNumbers i (step l i) ≡ record { from = i * rowBytes; bytes = (m - i) * rowBytes; next = m }
-      numbers-move =
-          let long : length (step l i .part) ≡ (m - i) * rowBytes =
-          rw between (length-part (m - i) (omega (arith, moved-inside, goes, step-forward))) in
-          let some : eqb ((m - i) * rowBytes) 0 ≡ false =
-          ne-eqb ((m - i) * rowBytes) 0 (λ (e : (m - i) * rowBytes ≡ 0). absurd (omega (arith, e, goes, step-forward, on))) in
-          rw (long, some, ← goes)
+-- n rows from row i on, by their first byte and the byte after them
+pub part-between : (l : List ℕ) (i n : ℕ) → take (i * rowBytes + n * rowBytes - i * rowBytes) (drop (i * rowBytes) l) ≡ part l i n
+unfolding part
+part-between l i n =
+    let bytes : i * rowBytes + n * rowBytes - i * rowBytes ≡ n * rowBytes = omega arith in
+    rw bytes

@@ -1,4 +1,4 @@
--- `trace::place::row_after` meets its contract. Before each turn the row is that after as many instructions as were passed, and one more of them is
+-- `part::row_after` meets its contract. Before each turn the row is that after as many instructions as were passed, and one more of them is
 -- passed by the rows of its cycle (`next-after`); those that are left fall.
 use Prim.Native.Nat.{suc, _+_, _-_, _≤_}
 use mathlib.Core.Path.{_≡_, sym, _∙_, ap}
@@ -8,8 +8,8 @@ use borrow.Author.Needs.{needs}
 use Rattle.model.specs.Columns.{rowsOf}
 use Rattle.model.specs.Cycles.{nextRow}
 use Rattle.model.proofs.InstructionLaws.{next-after, next-inside, next-there}
-use Rattle.trace.proofs.place.row_after.Statement.{statement}
-use Rattle.trace.proofs.place.row_after.Tie as tie
+use Rattle.part.proofs.row_after.Statement.{statement}
+use Rattle.part.proofs.row_after.Tie as tie
 
 abbrev Inv-loop : tie.InvT-loop
 Inv-loop t empty passed row₀ i₀ row i = (row ≡ nextRow (rowsOf t) i) × (i ≤ passed)

@@ -5,9 +5,9 @@ use lib.ListN.{length}
 use borrow.Author.Needs.{needs}
 use Rattle.model.specs.Columns.{rowBytes}
 use Rattle.model.specs.Cycles.{part}
-use Rattle.walker.proofs.StepLaws.{step-inside, step-part}
-use Rattle.walker.proofs.part_at.Statement.{statement}
-use Rattle.walker.proofs.part_at.Tie as tie
+use Rattle.part.proofs.StepLaws.{step-inside, step-part}
+use Rattle.part.proofs.part_at.Statement.{statement}
+use Rattle.part.proofs.part_at.Tie as tie
 
 -- the rows that are given lie in the trace
 inside : (c : tie.Else1) → let a = c .before .before .before .args in (a .next + c .before .rows-given .result) * rowBytes ≤ length (a .t .now)

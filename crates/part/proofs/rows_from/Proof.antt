@@ -1,9 +1,9 @@
--- `trace::place::rows_from` meets its contract: the rows are there, so their bytes are, and these are the part (`part-between`).
+-- `part::rows_from` meets its contract: the rows are there, so their bytes are, and these are the part (`part-between`).
 use native.Mathlib.Omega.{arith}
 use borrow.Author.Needs.{needs}
-use Rattle.trace.proofs.PlaceLaws.{part-between}
-use Rattle.trace.proofs.place.rows_from.Statement.{statement}
-use Rattle.trace.proofs.place.rows_from.Tie as tie
+use Rattle.part.proofs.StepLaws.{part-between}
+use Rattle.part.proofs.rows_from.Statement.{statement}
+use Rattle.part.proofs.rows_from.Tie as tie
 
 mul-from : tie.Need-mul-from
 mul-from c = omega (arith, c .pre)

@@ -1,9 +1,9 @@
 -- A step moves past the rows that it gives, and does not leave the trace.
 use native.Mathlib.Omega.{arith}
 use borrow.Author.Needs.{needs}
-use Rattle.walker.proofs.StepLaws.{step-inside}
-use Rattle.walker.proofs.next_at.Statement.{statement}
-use Rattle.walker.proofs.next_at.Tie as tie
+use Rattle.part.proofs.StepLaws.{step-inside}
+use Rattle.part.proofs.next_at.Statement.{statement}
+use Rattle.part.proofs.next_at.Tie as tie
 
 rows-given-requires : tie.Need-rows-given-requires
 rows-given-requires c κs = search needs

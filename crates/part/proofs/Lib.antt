@@ -1,0 +1,2 @@
+-- The laws of `part` that belong to no one function.
+pub mod StepLaws
