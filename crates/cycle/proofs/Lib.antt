@@ -1,5 +1,4 @@
 -- The laws and theorems of `cycle` that belong to no one function.
 pub mod DigitLaws
 pub mod MadeLaws
-pub mod ShiftLaws
 pub mod CycleLaws

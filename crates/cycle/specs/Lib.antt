@@ -1,2 +1,2 @@
 -- The definitions of `cycle`.
-pub mod Numbers
+pub mod Made

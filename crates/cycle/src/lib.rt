@@ -9,15 +9,14 @@ ghost use Rattle.model.specs.State.{Sound};
 ghost use Rattle.model.specs.Trace.{inBounds, lastOf, cycleOf};
 ghost use Rattle.state.specs.Plain.{state};
 ghost use Rattle.claim.specs.Told.{plainClaim};
+use beyond::put_beyond;
 use claim::claim::Claim;
 use model::IN_ROWS;
 use model::OUT_ROWS;
 use number::wide::in_bounds;
 use state::State;
 
-mod beyond;
 mod digits;
-mod growth;
 mod within;
 
 // Whether both ends of the claim are in bounds.
@@ -43,6 +42,6 @@ pub fn put_cycle(buf: &mut [u8], row: usize, stamp: u32, s: State, c: Claim)
     if is_within(c) {
         within::put_within(buf, row, stamp, s, c);
     } else {
-        beyond::put_beyond(buf, row, stamp, s, c);
+        put_beyond(buf, row, stamp, s, c);
     }
 }

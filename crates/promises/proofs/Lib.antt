@@ -12,6 +12,8 @@ pub mod Refusal
 pub mod State
 pub mod Recent
 pub mod Claim
+pub mod Growth
+pub mod Beyond
 pub mod Cycle
 pub mod Form
 pub mod List

@@ -12,8 +12,8 @@ use Rattle.model.specs.Columns.{rowBytes, table, bytesOf}
 use Rattle.model.specs.Constraints.{inLast}
 use Rattle.state.specs.Plain.{state}
 use Rattle.claim.specs.Told.{plainClaim}
-use Rattle.cycle.specs.Numbers.{withinRow}
-use Rattle.cycle.proofs.CycleLaws.{cycle-of, rows-next}
+use Rattle.beyond.proofs.TableLaws.{cycle-of, rows-next}
+use Rattle.cycle.specs.Made.{withinRow}
 use Rattle.cycle.proofs.MadeLaws.{made-self}
 use Rattle.cycle.proofs.within.put_within.Statement.{statement}
 use Rattle.cycle.proofs.within.put_within.Tie as tie

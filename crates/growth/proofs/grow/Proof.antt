@@ -1,4 +1,4 @@
--- `cycle::growth::grow` meets its contract: the end is above the bytes reached, so that its words cost no less than what is paid (`paid-more`).
+-- `growth::grow` meets its contract: the end is above the bytes reached, so that its words cost no less than what is paid (`paid-more`).
 use mathlib.Core.Path.{_≡_, refl, sym, ap}
 use native.Mathlib.Omega.{arith}
 use borrow.Author.Needs.{needs}
@@ -8,8 +8,8 @@ use Rattle.gas.specs.Plain.{parts}
 use Rattle.model.specs.Tests.{bit}
 use Rattle.model.specs.Trace as model
 use Rattle.model.proofs.StateLaws.{paid-more}
-use Rattle.cycle.proofs.growth.grow.Statement.{statement}
-use Rattle.cycle.proofs.growth.grow.Tie as tie
+use Rattle.growth.proofs.grow.Statement.{statement}
+use Rattle.growth.proofs.grow.Tie as tie
 
 words-of-requires : tie.Need-words-of-requires
 words-of-requires c κs = search needs

@@ -1,11 +1,11 @@
--- `cycle::beyond::beyond_by` meets its contract: the test of the first end is the model's.
+-- `beyond::beyond_by` meets its contract: the test of the first end is the model's.
 use mathlib.Core.Path.{sym, _∙_}
 use borrow.Author.Needs.{needs}
 use borrow.Author.Tests.{lt-leb, le-leb, ltb-true, ltb-false}
 use Rattle.number.specs.Whole.{val, bound}
 use Rattle.model.specs.Trace.{beyondEnd}
-use Rattle.cycle.proofs.beyond.beyond_by.Statement.{statement}
-use Rattle.cycle.proofs.beyond.beyond_by.Tie as tie
+use Rattle.beyond.proofs.beyond_by.Statement.{statement}
+use Rattle.beyond.proofs.beyond_by.Tie as tie
 
 in-bounds-requires : tie.Need-in-bounds-requires
 in-bounds-requires c κs = search needs

@@ -1,12 +1,12 @@
--- `cycle::growth::growth_of` meets its contract: an end that is not above the bytes reached leaves the state, and costs nothing.
+-- `growth::growth_of` meets its contract: an end that is not above the bytes reached leaves the state, and costs nothing.
 use mathlib.Core.Path.{refl, sym, ap}
 use native.Mathlib.Omega.{arith}
 use borrow.Author.Needs.{needs}
 use borrow.Author.Tests.{le-ltb}
 use Rattle.model.specs.Tests.{bit}
 use Rattle.model.specs.Trace.{above, lastWord, lastByte, square, reach}
-use Rattle.cycle.proofs.growth.growth_of.Statement.{statement}
-use Rattle.cycle.proofs.growth.growth_of.Tie as tie
+use Rattle.growth.proofs.growth_of.Statement.{statement}
+use Rattle.growth.proofs.growth_of.Tie as tie
 
 grow-requires : tie.Need-grow-requires
 grow-requires c κs = search needs

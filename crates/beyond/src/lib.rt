@@ -1,4 +1,5 @@
-// The cycle of an out-of-bounds claim: 17 rows, which carry the state on and spell how far an end is beyond the bound.
+// The cycle of an out-of-bounds claim: 17 rows, which carry the state on and spell how far an end is beyond the bound. Only crates of this
+// repository call `put_beyond`.
 ghost use mathlib.Core.Bool.{false};
 ghost use mathlib.Core.Path.{_≡_};
 ghost use Prim.Native.Nat.{suc, _+_, _*_, _≤_};
@@ -80,7 +81,7 @@ fn row_of(stamp: u32, s: State, c: Claim, i: u8, byte: u8, acc: Wide) -> Row
 }
 
 // Writes the cycle from this row on: the bytes of the distance go off its front, one a row, and sum up.
-pub(crate) fn put_beyond(buf: &mut [u8], row: usize, stamp: u32, s: State, c: Claim)
+pub fn put_beyond(buf: &mut [u8], row: usize, stamp: u32, s: State, c: Claim)
     requires { ⌜ (row + suc outLast) * rowBytes ≤ length (now buf) ⌝ }
     requires { ⌜ Sound (state s) ⌝ }
     requires { ⌜ inBounds (plainClaim c) ≡ false ⌝ }

@@ -1,4 +1,4 @@
--- `cycle::beyond::put_beyond` meets its contract. The invariant: i rows of the cycle are written from `row` on, the buffer keeps its length, and
+-- `beyond::put_beyond` meets its contract. The invariant: i rows of the cycle are written from `row` on, the buffer keeps its length, and
 -- the first i digits of the distance have gone from `rest` to `acc` (`Shifted`); `shift-next` and `rows-next` are one turn. The measure is the rows
 -- that are left.
 use Prim.Native.Nat.{suc, _*_, _-_, _≤_}
@@ -16,10 +16,10 @@ use Rattle.model.specs.Constraints.{outLast}
 use Rattle.model.specs.Trace.{beyondBy, outRow}
 use Rattle.state.specs.Plain.{state}
 use Rattle.claim.specs.Told.{plainClaim}
-use Rattle.cycle.proofs.CycleLaws.{cycle-of, rows-next}
-use Rattle.cycle.proofs.ShiftLaws.{Shifted, shift-none, shift-next}
-use Rattle.cycle.proofs.beyond.put_beyond.Statement.{statement}
-use Rattle.cycle.proofs.beyond.put_beyond.Tie as tie
+use Rattle.beyond.proofs.TableLaws.{cycle-of, rows-next}
+use Rattle.beyond.proofs.ShiftLaws.{Shifted, shift-none, shift-next}
+use Rattle.beyond.proofs.put_beyond.Statement.{statement}
+use Rattle.beyond.proofs.put_beyond.Tie as tie
 
 abbrev Inv-loop : tie.InvT-loop
 Inv-loop buf₀ row stamp s c rest₀ acc₀ i₀ buf rest acc i =

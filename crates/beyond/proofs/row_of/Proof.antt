@@ -1,4 +1,4 @@
--- `cycle::beyond::row_of` meets its contract: the cells from EBYTE on are those of the empty row, and a sound state has paid what fits 4 bytes
+-- `beyond::row_of` meets its contract: the cells from EBYTE on are those of the empty row, and a sound state has paid what fits 4 bytes
 -- (`paid-lt`).
 use Prim.Native.Nat.{ℕ}
 use mathlib.Core.Path.{_≡_, refl, ap}
@@ -12,8 +12,8 @@ use Rattle.model.proofs.FitLaws.{paid-lt}
 use Rattle.row.specs.Plain.{TailOf, plain}
 use Rattle.row.specs.declared.cells.Row.{Row}
 use Rattle.row.proofs.PlaceLaws.{parts-make}
-use Rattle.cycle.proofs.beyond.row_of.Statement.{statement}
-use Rattle.cycle.proofs.beyond.row_of.Tie as tie
+use Rattle.beyond.proofs.row_of.Statement.{statement}
+use Rattle.beyond.proofs.row_of.Tie as tie
 
 -- the tail of the empty row is that of an out-of-bounds row
 tail-empty : (stamp : ℕ) (s : State) (c : Claim) (i : ℕ) (x : Row) → plain x ≡ emptyRow → TailOf (outRow stamp s c i) (x .tail)

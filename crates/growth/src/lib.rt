@@ -1,4 +1,5 @@
-// The numbers of an in-bounds cycle: how its ends compare, and what the greater of them makes of the state of its context.
+// The numbers of an in-bounds cycle: how its ends compare, and what the greater of them makes of the state of its context. Only crates of this
+// repository call these functions.
 ghost use mathlib.Core.Bool.{true};
 ghost use mathlib.Core.Path.{_≡_};
 ghost use Prim.Native.Nat.{_<_};
@@ -7,7 +8,7 @@ ghost use Rattle.model.specs.State.{Sound};
 ghost use Rattle.model.specs.Trace.{inBounds};
 ghost use Rattle.state.specs.Plain.{state};
 ghost use Rattle.claim.specs.Told.{plainClaim};
-ghost use Rattle.cycle.specs.Numbers.{EndsOf, GrowthOf};
+ghost use Rattle.growth.specs.Numbers.{EndsOf, GrowthOf};
 use claim::claim::Claim;
 use gas::Bytes;
 use gas::Gas;
@@ -21,7 +22,7 @@ use model::AUX_LIFT;
 use state::State;
 
 // The ends, whether the first is at least the second (1, else 0), the greater one, and how far they are apart.
-pub(crate) struct Ends {
+pub struct Ends {
     pub end1: Bytes,
     pub end2: Bytes,
     pub comp: u8,
@@ -30,7 +31,7 @@ pub(crate) struct Ends {
 }
 
 // What the greater end makes of the state. From `gas` on all is 0 where that end is not above the bytes reached before.
-pub(crate) struct Growth {
+pub struct Growth {
     // Whether it is above them (1, else 0), and how far the two are apart.
     pub flag: u8,
     pub above: Bytes,
@@ -47,7 +48,7 @@ pub(crate) struct Growth {
 }
 
 // How the ends of an in-bounds claim compare.
-pub(crate) fn ends_of(c: Claim) -> Ends
+pub fn ends_of(c: Claim) -> Ends
     requires { ⌜ inBounds (plainClaim c) ≡ true ⌝ }
     ensures { λ r. ⌜ EndsOf (plainClaim c) r ⌝ }
 {
@@ -97,7 +98,7 @@ fn grow(s: State, top: Bytes) -> Growth
 }
 
 // What the end `top` makes of the state s.
-pub(crate) fn growth_of(s: State, top: Bytes) -> Growth
+pub fn growth_of(s: State, top: Bytes) -> Growth
     requires { ⌜ Sound (state s) ⌝ }
     requires { ⌜ top .0 < bound ⌝ }
     ensures { λ r. ⌜ GrowthOf (state s) (top .0) r ⌝ }

@@ -1,13 +1,13 @@
--- `cycle::growth::ends_of` meets its contract: an end in bounds is its last part (`ends-low`), and the comparison of the parts is that of the ends.
+-- `growth::ends_of` meets its contract: an end in bounds is its last part (`ends-low`), and the comparison of the parts is that of the ends.
 use mathlib.Core.Path.{refl, sym, ap}
 use native.Mathlib.Omega.{arith}
 use borrow.Author.Tests.{le-leb, lt-leb}
 use Rattle.number.specs.Whole.{val}
 use Rattle.model.specs.Tests.{bit}
 use Rattle.model.specs.Trace.{apart}
-use Rattle.cycle.proofs.MadeLaws.{ends-low}
-use Rattle.cycle.proofs.growth.ends_of.Statement.{statement}
-use Rattle.cycle.proofs.growth.ends_of.Tie as tie
+use Rattle.growth.proofs.EndLaws.{ends-low}
+use Rattle.growth.proofs.ends_of.Statement.{statement}
+use Rattle.growth.proofs.ends_of.Tie as tie
 
 cast-t5 : tie.Need-cast-t5
 cast-t5 c =

@@ -1,0 +1,3 @@
+-- The laws of `beyond` that belong to no one function.
+pub mod ShiftLaws
+pub mod TableLaws

@@ -1,0 +1,2 @@
+-- The laws of `growth` that belong to no one function.
+pub mod EndLaws

@@ -1,0 +1,2 @@
+-- The definitions of `growth`.
+pub mod Numbers
