@@ -1,3 +1,4 @@
 -- The laws of `beyond` that belong to no one function.
 pub mod ShiftLaws
 pub mod TableLaws
+pub mod RestLaws

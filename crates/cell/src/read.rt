@@ -52,7 +52,7 @@ pub fn u32_at(t: &[u8], p: usize) -> u32
 }
 
 // The number in the eight bytes from p on, by its halves.
-fn u64_at(t: &[u8], p: usize) -> u64
+pub fn u64_at(t: &[u8], p: usize) -> u64
     requires { ⌜ p + 8 ≤ length (now t) ⌝ }
     ensures { λ r. ⌜ r ≡ num (now (t .entry)) p 8 ⌝ }
 {

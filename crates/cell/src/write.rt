@@ -6,7 +6,72 @@ ghost use lib.ListN.{length};
 ghost use lib.Seq.{sets};
 ghost use Rattle.number.specs.Num.{be};
 ghost use Rattle.number.specs.Whole.{val};
+ghost use Rattle.cell.specs.Low.{le, swapped};
 use number::wide::Wide;
+
+fn swap16(v: u16) -> u16
+    ensures { λ r. ⌜ r ≡ swapped 2 v 0 ⌝ }
+{
+    let a = v % 256;
+    let v1 = v / 256;
+    a * 256 + v1 % 256
+}
+
+fn swap32(v: u32) -> u32
+    ensures { λ r. ⌜ r ≡ swapped 4 v 0 ⌝ }
+{
+    let a = v % 256;
+    let v1 = v / 256;
+    let b = a * 256 + v1 % 256;
+    let v2 = v1 / 256;
+    let c = b * 256 + v2 % 256;
+    let v3 = v2 / 256;
+    c * 256 + v3 % 256
+}
+
+fn swap64(v: u64) -> u64
+    ensures { λ r. ⌜ r ≡ swapped 8 v 0 ⌝ }
+{
+    let a = v % 256;
+    let v1 = v / 256;
+    let b = a * 256 + v1 % 256;
+    let v2 = v1 / 256;
+    let c = b * 256 + v2 % 256;
+    let v3 = v2 / 256;
+    let d = c * 256 + v3 % 256;
+    let v4 = v3 / 256;
+    let e = d * 256 + v4 % 256;
+    let v5 = v4 / 256;
+    let f = e * 256 + v5 % 256;
+    let v6 = v5 / 256;
+    let g = f * 256 + v6 % 256;
+    let v7 = v6 / 256;
+    g * 256 + v7 % 256
+}
+
+fn low16(buf: &mut [u8], at: usize, v: u16)
+    requires { ⌜ at + 2 ≤ length (now buf) ⌝ }
+    ensures { λ _. ⌜ now (buf .exit) ≡ sets (now (buf .entry)) at (le 2 v) ⌝ }
+{
+    buf[at] = (v % 256) as u8;
+    buf[at + 1] = (v / 256 % 256) as u8;
+}
+
+fn low32(buf: &mut [u8], at: usize, v: u32)
+    requires { ⌜ at + 4 ≤ length (now buf) ⌝ }
+    ensures { λ _. ⌜ now (buf .exit) ≡ sets (now (buf .entry)) at (le 4 v) ⌝ }
+{
+    low16(buf, at, (v % 65536) as u16);
+    low16(buf, at + 2, (v / 65536) as u16);
+}
+
+fn low64(buf: &mut [u8], at: usize, v: u64)
+    requires { ⌜ at + 8 ≤ length (now buf) ⌝ }
+    ensures { λ _. ⌜ now (buf .exit) ≡ sets (now (buf .entry)) at (le 8 v) ⌝ }
+{
+    low32(buf, at, (v % 4294967296) as u32);
+    low32(buf, at + 4, (v / 4294967296) as u32);
+}
 
 // The byte v at `at`.
 pub fn put_u8(buf: &mut [u8], at: usize, v: u8)
@@ -16,14 +81,21 @@ pub fn put_u8(buf: &mut [u8], at: usize, v: u8)
     buf[at] = v;
 }
 
+// The two bytes of v from `at` on.
+pub fn put_u16(buf: &mut [u8], at: usize, v: u16)
+    requires { ⌜ at + 2 ≤ length (now buf) ⌝ }
+    ensures { λ _. ⌜ now (buf .exit) ≡ sets (now (buf .entry)) at (be 2 v) ⌝ }
+{
+    low16(buf, at, swap16(v));
+}
+
 // The last three bytes of v from `at` on.
 pub fn put_u24(buf: &mut [u8], at: usize, v: u32)
     requires { ⌜ at + 3 ≤ length (now buf) ⌝ }
     ensures { λ _. ⌜ now (buf .exit) ≡ sets (now (buf .entry)) at (be 3 v) ⌝ }
 {
-    buf[at] = (v / 65536 % 256) as u8;
-    buf[at + 1] = (v / 256 % 256) as u8;
-    buf[at + 2] = (v % 256) as u8;
+    put_u16(buf, at, (v / 256 % 65536) as u16);
+    put_u8(buf, at + 2, (v % 256) as u8);
 }
 
 // The four bytes of v from `at` on.
@@ -31,17 +103,15 @@ pub fn put_u32(buf: &mut [u8], at: usize, v: u32)
     requires { ⌜ at + 4 ≤ length (now buf) ⌝ }
     ensures { λ _. ⌜ now (buf .exit) ≡ sets (now (buf .entry)) at (be 4 v) ⌝ }
 {
-    put_u8(buf, at, (v / 16777216) as u8);
-    put_u24(buf, at + 1, v % 16777216);
+    low32(buf, at, swap32(v));
 }
 
-// The eight bytes of v from `at` on, by its halves.
-fn put_u64(buf: &mut [u8], at: usize, v: u64)
+// The eight bytes of v from `at` on.
+pub fn put_u64(buf: &mut [u8], at: usize, v: u64)
     requires { ⌜ at + 8 ≤ length (now buf) ⌝ }
     ensures { λ _. ⌜ now (buf .exit) ≡ sets (now (buf .entry)) at (be 8 v) ⌝ }
 {
-    put_u32(buf, at, (v / 4294967296) as u32);
-    put_u32(buf, at + 4, (v % 4294967296) as u32);
+    low64(buf, at, swap64(v));
 }
 
 // The 17 bytes of v from `at` on.

@@ -18,7 +18,6 @@ use Rattle.model.proofs.JudgeLaws.{judged-stops}
 use Rattle.model.proofs.RowFacts.{of-within}
 use Rattle.model.proofs.TestFacts.{_&_}
 use Rattle.model.proofs.VerdictLaws.{judged-meet}
-use Rattle.meets.specs.Groups.{Chosen}
 use Rattle.rules.proofs.FirstLaws.{nine-matters-not}
 use Rattle.recent.specs.Notes.{Notes, recalled}
 use Rattle.recent.proofs.NoteLaws.{recalled-before}
@@ -89,27 +88,3 @@ pub first-of-rows : (r : ℕ → Cells) (n i : ℕ) (nine twentyFive : Bool) (a 
     → twentyFive ≡ k25 x → k ≡ firstFailed 1 (constraintsBy a b x (eqb i 0) (eqb (i + 1) n) nine twentyFive) → k ≡ firstAt r n nine i
 unfolding firstAt
 first-of-rows r n i nine twentyFive a b x k e f g h m = rw (← e, ← f, ← g, ← h) m
-
--- a row that meets all constraints meets 15 to 17
-pub chosen-before : (r : ℕ → Cells) (n i : ℕ) → judged (brokenAt r n) (suc i) ≡ meet → Chosen (r i)
-unfolding constraint
-chosen-before r n i m used ooob =
-    let holds = judged-meet r n (suc i) .0 m i (lt-suc-self i) in
-    let within = of-within (r i) (used-stamp (r i) used) ooob in
-    (within (k15 (r i)) (holds 15 (omega arith) (omega arith)) & within (k16 (r i)) (holds 16 (omega arith) (omega arith)))
-    & within (k17 (r i)) (holds 17 (omega arith) (omega arith))
-
--- a row that is told apart by its bytes meets all constraints, if the rows before it do, there are two of them and there is one after it
-pub met-by-bytes : (l : List ℕ) (n i : ℕ) (nine : Bool) → judged (brokenAt (rowAt l) n) i ≡ meet → 1 < i → i + 1 < n
-    → (Chosen (from l (i * rowBytes - rowBytes)) → firstFailed 1 (constraintsBy (from l (i * rowBytes - rowBytes - rowBytes)) (from l (i * rowBytes - rowBytes))
-    (from l (i * rowBytes)) false false nine (k25 (from l (i * rowBytes)))) ≡ 0)
-    → 0 ≡ firstAt (rowAt l) n nine i
-met-by-bytes l n zero nine m some last h = absurd (omega arith)
-met-by-bytes l n (suc zero) nine m some last h = absurd (omega arith)
-met-by-bytes l n (suc (suc j)) nine m some last h =
-    let one : suc (suc j) * rowBytes - rowBytes ≡ suc j * rowBytes = omega arith in
-    let two : suc (suc j) * rowBytes - rowBytes - rowBytes ≡ j * rowBytes = omega arith in
-    let before = ap (from l) one ∙ from-row l (suc j) in
-    let more : eqb (suc (suc j) + 1) n ≡ false = ne-eqb (suc (suc j) + 1) n (λ e. absurd (omega (arith, last, e))) in
-    first-of-rows (rowAt l) n (suc (suc j)) nine _ _ _ _ 0 (ap (from l) two ∙ from-row l j) before (from-row l (suc (suc j))) refl
-    (rw (eqb·suc-zero (suc j), more) (sym (h (subst Chosen (sym before) (chosen-before (rowAt l) n (suc j) m)))))

@@ -4,17 +4,20 @@ ghost use mathlib.Core.Path.{_≡_};
 ghost use Prim.Native.Nat.{suc, _+_, _*_, _≤_};
 ghost use lib.ListN.{length};
 ghost use lib.Seq.{sets};
-ghost use Rattle.model.specs.Columns.{rowBytes, bytesOf};
+ghost use Rattle.model.specs.Columns.{rowBytes, rowAt, bytesOf};
 ghost use Rattle.model.specs.Constraints.{inLast};
 ghost use Rattle.model.specs.State.{Sound};
 ghost use Rattle.model.specs.Trace.{inBounds, cycleOf};
 ghost use Rattle.row.specs.Plain.{HeadOf, BodyOf, TailOf, plain};
 ghost use Rattle.state.specs.Plain.{state};
 ghost use Rattle.claim.specs.Told.{plainClaim};
+ghost use Rattle.model.specs.Promises.{ValidClaim};
+ghost use Rattle.alike.specs.Stands.{CycleStands};
 ghost use Rattle.cycle.specs.Made.{MadeOf, withinRow};
 use crate::digits::digit;
 use crate::digits::in_rows;
 use crate::digits::prefix;
+use alike::row_is;
 use claim::claim::Claim;
 use growth::Ends;
 use growth::Growth;
@@ -145,4 +148,23 @@ pub(crate) fn put_within(buf: &mut [u8], row: usize, stamp: u32, s: State, c: Cl
         put_row(buf, row + i as usize, row_of(m, i));
         i += 1;
     }
+}
+
+// Whether the cycle stands from this row on.
+pub(crate) fn within_is(t: &[u8], row: usize, stamp: u32, s: State, c: Claim) -> bool
+    requires { ⌜ (row + suc inLast) * rowBytes ≤ length (now t) ⌝ }
+    requires { ⌜ Sound (state s) ⌝ }
+    requires { ⌜ inBounds (plainClaim c) ≡ true ⌝ }
+    requires { ⌜ ValidClaim (plainClaim c) ⌝ }
+    ensures { λ r. ⌜ (r ≡ true → CycleStands (rowAt (now (t .entry))) row stamp (state s) (plainClaim c)) ⌝ }
+{
+    let m = make(stamp, s, c);
+    let mut i: u8 = 0;
+    while i <= IN_LAST {
+        if !row_is(t, row + i as usize, row_of(m, i)) {
+            return false;
+        }
+        i += 1;
+    }
+    true
 }

@@ -152,7 +152,7 @@ fit-empty : (n : ℕ) → AllFit (replicate n emptyRow)
 fit-empty zero = tt
 fit-empty (suc n) = (zeros-fit widths, fit-empty n)
 
-fit-cycle : (stamp : ℕ) (s : State) (c : Claim) → stamp < 256 ^ 4 → Sound s → ValidClaim c → AllFit (cycleOf stamp s c)
+pub fit-cycle : (stamp : ℕ) (s : State) (c : Claim) → stamp < 256 ^ 4 → Sound s → ValidClaim c → AllFit (cycleOf stamp s c)
 unfolding cycleOf
 fit-cycle stamp s c z k v = fit-table (suc (lastOf c)) (rowOf stamp s c) (λ i h. row-of-fits stamp s c i z k v (le-of-suc-le-suc h))
 

@@ -23,6 +23,7 @@ pub mod JudgeLaws
 pub mod VerdictLaws
 pub mod RowsVerdict
 pub mod ExactlyOne
+pub mod OneCycle
 pub mod AloneLaws
 pub mod LastState
 pub mod LatestCycle

@@ -65,11 +65,11 @@ bit-test : (t : Bool) → eqb (bit t) 1 ≡ t
 bit-test true = refl
 bit-test false = refl
 
-oob-of-row : (k : ℕ) (s : State) (c : Claim) (i : ℕ) → eqb (rowOf k s c i .ooob) 1 ≡ not (inBounds c)
+pub oob-of-row : (k : ℕ) (s : State) (c : Claim) (i : ℕ) → eqb (rowOf k s c i .ooob) 1 ≡ not (inBounds c)
 oob-of-row k s c i = ap (λ v. eqb v 1) (is-row k s c i .ooob) ∙ bit-test (not (inBounds c))
 
 -- at a stamp from 1 up each row is one of an instruction, and row 0 alone starts a cycle
-row-used : (k : ℕ) (s : State) (c : Claim) (i : ℕ) → inUse (rowOf (suc k) s c i) ≡ true
+pub row-used : (k : ℕ) (s : State) (c : Claim) (i : ℕ) → inUse (rowOf (suc k) s c i) ≡ true
 unfolding inUse
 row-used k s c i = rw (is-row (suc k) s c i .stamp, eqb·suc-zero k)
 
@@ -105,7 +105,7 @@ cycles-empty i zero = refl
 cycles-empty i (suc n) = cycles-empty (suc i) n
 
 -- the rows of a claim are one cycle
-cycles-one : (i k : ℕ) (s : State) (c : Claim) → cyclesFrom i (cycleOf (suc k) s c) ≡ record { first = i; row = rowOf (suc k) s c 0 } ∷ []
+pub cycles-one : (i k : ℕ) (s : State) (c : Claim) → cyclesFrom i (cycleOf (suc k) s c) ≡ record { first = i; row = rowOf (suc k) s c 0 } ∷ []
 unfolding cyclesFrom cycleOf table
 cycles-one i k s c =
     rw (starts-first k s c 0, cycles-none (suc i) (lastOf c) (λ j. rowOf (suc k) s c (suc j)) (λ j. starts-first k s c (suc j) ∙ eqb·suc-zero j))
@@ -172,7 +172,7 @@ unfolding count inUse
 empty-rows zero = refl
 empty-rows (suc n) = ap suc (empty-rows n)
 
-empty-cycle : (k : ℕ) (s : State) (c : Claim) → count isEmpty (cycleOf (suc k) s c) ≡ 0
+pub empty-cycle : (k : ℕ) (s : State) (c : Claim) → count isEmpty (cycleOf (suc k) s c) ≡ 0
 unfolding cycleOf
 empty-cycle k s c = count-none isEmpty (suc (lastOf c)) (rowOf (suc k) s c) (λ j. ap not (row-used k s c j))
 

@@ -29,7 +29,7 @@ use Rattle.model.proofs.TableOf.{getD-table}
 use Rattle.model.proofs.TestFacts.{all-at}
 
 -- rows stand at p
-abbrev Stands : (ℕ → Cells) → ℕ → List Cells → Type 0
+abbrev pub Stands : (ℕ → Cells) → ℕ → List Cells → Type 0
 Stands r p rows = (i : ℕ) → i < length rows → r (p + i) ≡ rowIn rows i
 
 stands-first : (r : ℕ → Cells) (p : ℕ) (xs ys : List Cells) → Stands r p (xs ++ ys) → Stands r p xs
@@ -41,7 +41,7 @@ stands-rest r p xs ys h i l =
 
 -- ---- empty rows
 
-empty-meets : (a : Cells) (q : State) (first last : Bool)
+pub empty-meets : (a : Cells) (q : State) (first last : Bool)
     → Passes (record { two = a; one = emptyRow; this = emptyRow; state = q; first = first; last = last })
 unfolding k1 k2 k3 k4 k5 k6 k26 inUse stampMoves ctMoves
 empty-meets a q true true = refl
@@ -50,7 +50,7 @@ empty-meets a q false true = refl
 empty-meets a q false false = refl
 
 module _ (r : ℕ → Cells) (n : ℕ) where
-  from-meets : (i : ℕ) → Passes (view r n i) → AllHold r n i
+  pub from-meets : (i : ℕ) → Passes (view r n i) → AllHold r n i
   from-meets i h = all-hold r n i (all-at (constraints (view r n i)) h)
 
   -- ---- one cycle, after row p
@@ -62,7 +62,7 @@ module _ (r : ℕ → Cells) (n : ℕ) where
     abbrev row : ℕ → Cells
     row i = rowOf (suc k) s c i
 
-    at : (i : ℕ) → i ≤ lastOf c → r (suc p + i) ≡ row i
+    pub at : (i : ℕ) → i ≤ lastOf c → r (suc p + i) ≡ row i
     unfolding cycleOf
     at i l = stands i (rw length-cycle (omega arith)) ∙ getD-table (suc (lastOf c)) row i emptyRow (omega arith)
 
@@ -78,13 +78,13 @@ module _ (r : ℕ → Cells) (n : ℕ) where
     last-row : (i : ℕ) → i ≤ lastOf c → eqb (suc (suc p + i)) n ≡ true → i ≡ lastOf c
     last-row i l e = omega (arith, eqb-true (suc (suc p + i)) n e)
 
-    cycle-holds : (i : ℕ) → i ≤ lastOf c → AllHold r n (suc p + i)
+    pub cycle-holds : (i : ℕ) → i ≤ lastOf c → AllHold r n (suc p + i)
     cycle-holds i l =
         let m = row-meets k s c (sound (c .context)) valid i l _ _ _ (behind i l) (eqb (suc (suc p + i)) n) (last-row i l) in
         let first : eqb (suc p + i) 0 ≡ false = ne-eqb (suc p + i) 0 (λ e. absurd (omega arith)) in
         from-meets (suc p + i) (rw (at i l, first) m)
 
-    leads-next : Leads (r (suc p + lastOf c)) (suc (suc k))
+    pub leads-next : Leads (r (suc p + lastOf c)) (suc (suc k))
     leads-next =
         let f = is-row (suc k) s c (lastOf c) in
         rw (at (lastOf c) (omega arith)) (record {
@@ -92,7 +92,7 @@ module _ (r : ℕ → Cells) (n : ℕ) where
           cts = rw (f .stamp, f .ct) (ct-starts (suc k) (lastOf c) (suc (suc k)) (λ e. absurd (omega arith)));
         })
 
-    before-next : before r (suc p + suc (lastOf c)) ≡ afterClaim states c
+    pub before-next : before r (suc p + suc (lastOf c)) ≡ afterClaim states c
     before-next =
         before-claim r (suc p) (lastOf c) (suc k) c (suc-ne-zero k) (λ i l. rw b (at i l)) ∙ ap (λ (states : Context → State). afterClaim states c) b
 

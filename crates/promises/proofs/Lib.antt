@@ -21,7 +21,6 @@ pub mod Lines
 pub mod Filler
 pub mod Words
 pub mod Rules
-pub mod Meets
 pub mod Count
 pub mod Checker
 pub mod Part

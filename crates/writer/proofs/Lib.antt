@@ -1,2 +1,3 @@
 -- The laws and theorems of `writer` that belong to no one function.
 pub mod PutLaws
+pub mod GroupLaws

@@ -26,7 +26,7 @@ stores-join (c ∷ cs) x l p o =
 
 -- the stores of three parts are one run of the row's bytes
 pub row-of-stores : {m k n : List ℕ} (x : Cells) (l : List ℕ) (i : ℕ)
-    → m ≡ partStored 0 10 x l (i * rowBytes) → k ≡ partStored 10 10 x m (i * rowBytes) → n ≡ partStored 20 10 x k (i * rowBytes)
+    → m ≡ partStored 0 9 x l (i * rowBytes) → k ≡ partStored 9 10 x m (i * rowBytes) → n ≡ partStored 19 11 x k (i * rowBytes)
     → n ≡ sets l (i * rowBytes) (encode widths (cellsIn columns x))
 row-of-stores {m} {k} {n} x l i a b c =
     let here : n ≡ storesFrom columns x l (i * rowBytes) 0 = cc in

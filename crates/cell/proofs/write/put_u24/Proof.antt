@@ -1,55 +1,53 @@
--- `cell::write::put_u24` meets its contract: three stores are one run of the three bytes.
-use native.Mathlib.Omega.{arith}
-use lib.ListN.{length-set}
+use Rattle.number.proofs.StoreLaws.{sets-cut}
+use Rattle.cell.proofs.LowLaws.{be-two}
 use borrow.Author.Needs.{needs}
-use Rattle.number.proofs.NumLaws.{be-three}
-use Rattle.number.proofs.StoreLaws.{three-stores}
 use Rattle.cell.proofs.write.put_u24.Statement.{statement}
 use Rattle.cell.proofs.write.put_u24.Tie as tie
+use Rattle.cell.proofs.write.put_u24.Reads as reads
+use Rattle.cell.proofs.write.put_u24.Lts as lts
+use Rattle.cell.proofs.write.put_u16.Reads as put-u16-reads
+use Rattle.cell.proofs.write.put_u8.Reads as put-u8-reads
 
-cast-buf : tie.Need-cast-buf
-cast-buf c = search needs
+-- src/write.rt:97:22
+cast-put-u16 : tie.Need-cast-put-u16
+cast-put-u16 c = search needs
 
-slice-write-buf : tie.Need-slice-write-buf
-slice-write-buf c = search needs
+-- src/write.rt:97:5
+put-u16-requires : tie.Need-put-u16-requires
+put-u16-requires c κs = search needs
 
-cast-buf-2 : tie.Need-cast-buf-2
-cast-buf-2 c = search needs
+-- src/write.rt:98:17
+add-put-u8 : tie.Need-add-put-u8
+add-put-u8 c = search needs
 
-add-buf : tie.Need-add-buf
-add-buf c = search needs
+-- src/write.rt:98:25
+cast-put-u8 : tie.Need-cast-put-u8
+cast-put-u8 c = search needs
 
-slice-write-buf-2 : tie.Need-slice-write-buf-2
-slice-write-buf-2 c = simp length-set (omega arith)
+-- src/write.rt:98:5
+put-u8-requires : tie.Need-put-u8-requires
+put-u8-requires c κs = search needs
 
-cast-buf-3 : tie.Need-cast-buf-3
-cast-buf-3 c = search needs
-
-add-buf-2 : tie.Need-add-buf-2
-add-buf-2 c = search needs
-
-slice-write-buf-3 : tie.Need-slice-write-buf-3
-slice-write-buf-3 c = simp length-set (omega arith)
-
+-- src/write.rt:93:1
 same-length : tie.Need-same-length
 same-length c = search needs
 
+-- src/write.rt:93:1
 returns : tie.Need-returns
 returns c =
-    let a = c .args in
-    rw (be-three (a .v)) (three-stores (a .buf .now) (a .at) _ _ _)
+    let last = c .before .before in
+    let first = last .before .before .before .before in
+    let a = first .before .before .before .args in
+    sets-cut (a .buf .now) (a .at) 2 1 (a .v) (rw be-two at (first .put-u16 .ensures)) (last .put-u8 .ensures)
 
 pub put-u24-spec : {M : Type 1} → statement M
 put-u24-spec =
     tie.close
     (tie.spec
-    cast-buf
-    slice-write-buf
-    cast-buf-2
-    add-buf
-    slice-write-buf-2
-    cast-buf-3
-    add-buf-2
-    slice-write-buf-3
+    cast-put-u16
+    put-u16-requires
+    add-put-u8
+    cast-put-u8
+    put-u8-requires
     same-length
     returns)

@@ -1,129 +1,156 @@
--- `checker::judge::verdict_on`: before row i the rows below it meet all constraints and are noted and counted, and `cycles` is STAMP of the row before.
--- The rows that are left fall. A row that breaks a constraint ends the judgement (`told-broken`); past the last, all meet (`told-accepted`).
-use Prim.Native.Nat.{_-_, _≤_}
-use mathlib.Core.Path.{_≡_, sym, _∙_, ap, refl}
+-- `checker::judge::verdict_on`: before row i the rows below it are empty rows and whole cycles that meet all constraints (`Ready`), noted and counted.
+-- The rows that are left fall. Where the next cycle does not stand the rest is judged row by row; past the last, all meet (`told-accepted`).
+use Prim.Native.Nat.{ℕ, suc, _+_, _-_, _≤_, _<_}
+use mathlib.Core.Bool.{not}
+use mathlib.Core.Path.{_≡_, refl, sym, _∙_, ap}
 use native.Mathlib.Numerals.{add-one}
 use native.Mathlib.Omega.{arith}
 use borrow.Author.Needs.{needs}
+use borrow.Author.Tests.{not-false}
+use lib.ListN.{set}
 use Rattle.model.specs.Columns.{Cells, rowAt, table}
 use Rattle.model.specs.Cycles.{counts}
+use Rattle.model.specs.Tests.{bit}
+use Rattle.model.specs.Trace.{inBounds, lastOf}
 use Rattle.model.specs.Verdict.{rowBefore, brokenAt, judged, meet}
-use Rattle.recent.specs.Notes.{Notes}
+use Rattle.model.proofs.OneCycle.{Ready, ready-first}
+use Rattle.state.specs.Plain.{context}
+use Rattle.claim.specs.Told.{plainClaim}
+use Rattle.recent.specs.Notes.{Notes, slotOf, recalled}
 use Rattle.recent.proofs.NoteLaws.{notes-first}
-use Rattle.row.proofs.PlaceLaws.{from-row}
-use Rattle.count.specs.Counts.{plainCounts}
-use Rattle.count.proofs.CountLaws.{counts-none, room, counted-next, counted-cells}
-use Rattle.checker.proofs.RowLaws.{broken-is, meets-first, meets-next, told-broken, told-accepted}
+use Rattle.count.proofs.CountLaws.{counts-none, counts-below}
+use Rattle.checker.specs.Rows.{CycleNext}
+use Rattle.checker.proofs.RowLaws.{meets-first, told-accepted}
+use Rattle.checker.proofs.CycleLaws.{countsAs, counts-empty, notes-empty, ready-stamp, recalls-sound, ready-behind, notes-behind, counts-behind, oob-bit, few}
 use Rattle.checker.proofs.judge.verdict_on.Statement.{statement}
 use Rattle.checker.proofs.judge.verdict_on.Tie as tie
+use Rattle.checker.proofs.judge.verdict_on.Reads as reads
+use Rattle.checker.proofs.judge.verdict_on.Lts as lts
+use Rattle.checker.proofs.judge.cycle_stands.Reads as cycle-stands-reads
+use Rattle.checker.proofs.judge.empty_rows.Reads as empty-rows-reads
+use Rattle.checker.proofs.judge.verdict_from.Reads as verdict-from-reads
+use Rattle.cycle.proofs.rows_of.Reads as rows-of-reads
+use Rattle.recent.proofs.note.Reads as note-reads
+use Rattle.refill.proofs.claim_shown.Reads as claim-shown-reads
+use Rattle.words.proofs.bit.Reads as bit-reads
 
 abbrev Inv-loop : tie.InvT-loop
-Inv-loop t n c₀ notes₀ cycles₀ i₀ c notes cycles i =
-    (i ≤ n) × (judged (brokenAt (rowAt t) n) i ≡ meet) × Notes notes (rowAt t) i × (cycles ≡ rowBefore (rowAt t) i .stamp)
-    × (plainCounts c ≡ counts (table i (rowAt t)))
+Inv-loop t n notes₀ empty oob₀ cycles₀ i₀ notes oob cycles i =
+    (i ≤ n) × Ready (rowAt t) n i cycles × Notes notes (rowAt t) i × (countsAs cycles oob empty ≡ counts (table i (rowAt t)))
 
 abbrev μ-loop : tie.MeasureT-loop
-μ-loop t n c₀ notes₀ cycles₀ i₀ c notes cycles i = n - i
+μ-loop t n notes₀ empty oob₀ cycles₀ i₀ notes oob cycles i = n - i
 
-loop-holds : tie.Need-loop-holds Inv-loop μ-loop
-loop-holds c = (omega arith, meets-first _ _, notes-first _, refl, sym (counts-none _))
+-- src/judge.rt:193:9
+empty-rows-requires : tie.Need-empty-rows-requires Inv-loop μ-loop
+empty-rows-requires c κs = search needs
 
-keeps-state-requires : tie.Need-keeps-state-requires Inv-loop μ-loop
-keeps-state-requires c κs =
-    let l = c .before .before .loop in
-    (omega arith, l .inv .2)
+-- src/judge.rt:203:9
+verdict-from-requires : tie.Need-verdict-from-requires Inv-loop μ-loop
+verdict-from-requires c κs =
+    let start = c .before .before .before .before in
+    (start .pre .0, (start .pre .1, (omega arith, (meets-first _ _, (notes-first _, (refl, sym (counts-none _)))))))
 
-broken-constraint-requires : tie.Need-broken-constraint-requires Inv-loop μ-loop
-broken-constraint-requires c κs =
-    let turn = c .before .before in
-    (omega arith, (turn .loop-test .taken, turn .before .loop .inv .1))
-
--- the constraint that the row breaks first
-broken-here : (c : tie.After-broken-constraint Inv-loop μ-loop)
-    → let at = c .before .before .before .before in
-    let a = at .before .before .args in
-    c .broken-constraint .result ≡ brokenAt (rowAt (a .t .now)) (a .n) (at .loop .i)
-broken-here c =
-    let nine = c .before in
-    let l = nine .before .before .before .loop in
-    c .broken-constraint .ensures ∙ rw (nine .keeps-state .ensures, l .inv .3) (broken-is _ _ _ _ (l .inv .1) (l .inv .2))
-
+-- src/judge.rt:203:9
 returns : tie.Need-returns Inv-loop μ-loop
-returns c =
-    let judged = c .before in
-    let turn = judged .before .before .before in
-    let l = turn .before .loop in
-    told-broken _ _ (l .i) _ (turn .loop-test .taken) (l .inv .1) (broken-here judged) (omega arith)
+returns c = c .verdict-from .ensures
 
-mul-x : tie.Need-mul-x Inv-loop μ-loop
-mul-x c = search needs
+-- src/judge.rt:205:5
+loop-holds : tie.Need-loop-holds Inv-loop μ-loop
+loop-holds c =
+    let found = c .before .empty-rows .ensures in
+    (found .0, ready-first _ _ _ (found .1) (omega arith), notes-empty _ _ (found .1), counts-empty _ _ (found .1))
 
-add-u32-at : tie.Need-add-u32-at Inv-loop μ-loop
-add-u32-at c = search needs
+-- src/judge.rt:206:13
+claim-shown-requires : tie.Need-claim-shown-requires Inv-loop μ-loop
+claim-shown-requires c κs = search needs
 
-u32-at-requires : tie.Need-u32-at-requires Inv-loop μ-loop
-u32-at-requires c κs = search needs
+-- src/judge.rt:207:13
+cycle-stands-requires : tie.Need-cycle-stands-requires Inv-loop μ-loop
+cycle-stands-requires c κs =
+    let l = c .before .before .before .loop in
+    let start = c .before .before .before .before .before .before .before in
+    (start .pre .0, (l .inv .0, (omega (arith, few _ _ _ _ _ (l .inv .3)), (l .inv .2, recalls-sound (l .inv .1) (l .inv .2) _))))
 
-add-u8-at : tie.Need-add-u8-at Inv-loop μ-loop
-add-u8-at c = search needs
+-- src/judge.rt:213:13
+verdict-from-requires-2 : tie.Need-verdict-from-requires-2 Inv-loop μ-loop
+verdict-from-requires-2 c κs =
+    let l = c .before .before .before .before .before .before .loop in
+    let start = c .before .before .before .before .before .before .before .before .before .before in
+    (start .pre .0, (start .pre .1, (l .inv .0, (l .inv .1 .meets, (l .inv .2, (ready-stamp (l .inv .1), l .inv .3))))))
 
-u8-at-requires : tie.Need-u8-at-requires Inv-loop μ-loop
-u8-at-requires c κs = search needs
+-- src/judge.rt:213:13
+returns-2 : tie.Need-returns-2 Inv-loop μ-loop
+returns-2 c = c .verdict-from2 .ensures
 
-add-u8-at-2 : tie.Need-add-u8-at-2 Inv-loop μ-loop
-add-u8-at-2 c = search needs
+-- src/judge.rt:215:13
+rows-of-requires : tie.Need-rows-of-requires Inv-loop μ-loop
+rows-of-requires c κs = search needs
 
-u8-at-requires-2 : tie.Need-u8-at-requires-2 Inv-loop μ-loop
-u8-at-requires-2 c κs = search needs
+-- src/judge.rt:216:16
+bit-requires : tie.Need-bit-requires Inv-loop μ-loop
+bit-requires c κs = search needs
 
-count-cells-requires : tie.Need-count-cells-requires Inv-loop μ-loop
-count-cells-requires c κs =
-    let l = c .before .before .before .before .before .before .before .before .loop in
-    let some = room _ (l .i) (l .c) (omega arith) (l .inv .4) in
-    (some .instructions, (some .oob, some .empty))
+-- src/judge.rt:216:9
+-- the cycle that stands
+stands : (c : tie.After-bit Inv-loop μ-loop)
+    → let l = c .before .before .before .before .before .before .before .loop in
+    let a = c .before .before .before .before .before .before .before .before .before .before .before .args in
+    let d = plainClaim (c .before .before .before .before .before .claim-shown .result) in
+    CycleNext (rowAt (a .t .now)) (a .n) (l .i) (suc (l .cycles)) (recalled (rowAt (a .t .now)) (l .notes) (d .context) (l .cycles) (l .i)) d
+stands c =
+    let asked = c .before .before .before .cycle-stands in
+    asked .ensures (not-false (asked .result) (c .before .before .if2 .left))
 
-note-row-requires : tie.Need-note-row-requires Inv-loop μ-loop
-note-row-requires c κs =
-    let stamp = c .before .before .before .before in
-    let at = stamp .before .before .before .before .before .before in
-    let row = from-row (at .before .before .args .t .now) (at .loop .i) in
-    (omega arith, (omega arith, (stamp .u32-at .ensures ∙ ap (λ (y : Cells). y .stamp) row, at .loop .inv .2)))
+add-oob : tie.Need-add-oob Inv-loop μ-loop
+add-oob c =
+    let l = c .before .before .before .before .before .before .before .loop in
+    omega (arith, few _ _ _ _ _ (l .inv .3), c .bit .ensures .1)
 
-cast-cycles : tie.Need-cast-cycles Inv-loop μ-loop
-cast-cycles c = search needs
-
+-- src/judge.rt:217:9
 add-i : tie.Need-add-i Inv-loop μ-loop
-add-i c = search needs
+add-i c = omega (arith, stands c .fits, c .before .rows-of .ensures)
 
+-- src/judge.rt:218:41
+sub-note : tie.Need-sub-note Inv-loop μ-loop
+sub-note c = omega (arith, c .before .before .rows-of .ensures)
+
+-- src/judge.rt:218:9
+note-requires : tie.Need-note-requires Inv-loop μ-loop
+note-requires c κs = omega (arith, stands (c .before) .fits, c .before .before .rows-of .ensures)
+
+-- src/judge.rt:219:9
+add-cycles : tie.Need-add-cycles Inv-loop μ-loop
+add-cycles c =
+    let l = c .before .before .before .before .before .before .before .before .before .loop in
+    omega (arith, few _ _ _ _ _ (l .inv .3))
+
+-- src/judge.rt:205:5
 loop-less : tie.Need-loop-less Inv-loop μ-loop
-loop-less c = search needs
+loop-less c = omega (arith, stands (c .before .before) .fits, c .before .before .before .rows-of .ensures)
 
+-- src/judge.rt:205:5
 loop-again : tie.Need-loop-again Inv-loop μ-loop
 loop-again c =
-    let count = c .before .before in
-    let ct = count .before in
-    let ooob = ct .before in
-    let stamp = ooob .before in
-    let judged = stamp .before .before in
-    let at = judged .before .before .before .before in
-    let l = at .loop in
-    let row = from-row (at .before .before .args .t .now) (l .i) in
-    let stamp-is = stamp .u32-at .ensures ∙ ap (λ (y : Cells). y .stamp) row in
-    let zero : judged .broken-constraint .result ≡ 0 = omega arith in
-    let counted =
-    counted-cells _ _ _ _ _ _ stamp-is (ooob .u8-at .ensures ∙ ap (λ (y : Cells). y .ooob) row) (ct .u8-at2 .ensures ∙ ap (λ (y : Cells). y .ct) row)
-    (count .count-cells .ensures) in (
-      omega arith,
-      meets-next _ _ _ (l .inv .1) (sym (broken-here judged) ∙ zero),
-      rw (add-one (l .i)) (c .note-row .ensures),
-      rw (add-one (l .i)) stamp-is,
-      counted-next _ _ _ _ _ (l .inv .4) refl counted,
+    let tested = c .before .before in
+    let rows = tested .before .rows-of .ensures in
+    let l = tested .before .before .before .before .before .before .before .loop in
+    let d = plainClaim (tested .before .before .before .before .before .claim-shown .result) in
+    let next = stands tested in
+    let last : suc (l .i + tested .before .rows-of .result - 1) ≡ l .i + suc (lastOf d) = omega (arith, rows) in
+    let noted : c .note .last .0 ≡ set (l .notes) (slotOf (d .context)) (l .i + suc (lastOf d)) = c .note .ensures ∙ ap (set (l .notes) (slotOf (d .context))) last in
+    let out : tested .bit .result ≡ bit (not (inBounds d)) = oob-bit d _ _ rows (tested .bit .ensures .0) in (
+      omega (arith, next .fits, rows),
+      rw (rows, add-one (l .cycles)) (ready-behind (l .inv .1) (l .inv .2) d next),
+      rw (rows, noted) (notes-behind (l .inv .1) (l .inv .2) d next),
+      rw (rows, out) (counts-behind (l .inv .1) (l .inv .2) d next (l .inv .3)),
     )
 
-returns-2 : tie.Need-returns-2 Inv-loop μ-loop
-returns-2 c =
+-- src/judge.rt:186:1
+returns-3 : tie.Need-returns-3 Inv-loop μ-loop
+returns-3 c =
     let l = c .before .loop in
-    told-accepted _ _ _ (l .i) (omega arith) (l .inv .1) (l .inv .4)
+    told-accepted _ _ _ (l .i) (omega arith) (l .inv .1 .meets) (l .inv .3)
 
 pub verdict-on-spec : {M : Type 1} → statement M
 verdict-on-spec =
@@ -131,21 +158,21 @@ verdict-on-spec =
     (tie.spec
     Inv-loop
     μ-loop
-    loop-holds
-    keeps-state-requires
-    broken-constraint-requires
+    empty-rows-requires
+    verdict-from-requires
     returns
-    mul-x
-    add-u32-at
-    u32-at-requires
-    add-u8-at
-    u8-at-requires
-    add-u8-at-2
-    u8-at-requires-2
-    count-cells-requires
-    note-row-requires
-    cast-cycles
+    loop-holds
+    claim-shown-requires
+    cycle-stands-requires
+    verdict-from-requires-2
+    returns-2
+    rows-of-requires
+    bit-requires
+    add-oob
     add-i
+    sub-note
+    note-requires
+    add-cycles
     loop-less
     loop-again
-    returns-2)
+    returns-3)

@@ -1,0 +1,3 @@
+-- The laws of `alike`.
+pub mod JoinedLaws
+pub mod NarrowLaws

@@ -1,0 +1,3 @@
+-- The definitions of `alike`.
+pub mod Narrow
+pub mod Stands

@@ -1,0 +1,2 @@
+-- The laws of `cell`.
+pub mod LowLaws

@@ -1,0 +1,2 @@
+-- The definitions of `cell`.
+pub mod Low

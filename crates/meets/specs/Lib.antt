@@ -1,2 +1,0 @@
--- The definitions of `meets`.
-pub mod Groups

@@ -1,0 +1,2 @@
+-- The laws of `refill`.
+pub mod StandLaws

@@ -1,0 +1,2 @@
+-- The definitions of `refill`.
+pub mod Stands

@@ -1,0 +1,2 @@
+-- The laws of `same`.
+pub mod SameLaws

@@ -1,0 +1,2 @@
+-- The definitions of `same`.
+pub mod Same
