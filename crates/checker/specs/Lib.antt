@@ -1,3 +1,5 @@
 -- The definitions of `checker`.
 pub mod Answer
 pub mod Rows
+pub mod Tmp
+pub mod Steps
