@@ -1,5 +1,5 @@
 -- What the checker knows before a cycle gives the state that the cycle starts at, and with a cycle that stands what it knows behind it.
-use Prim.Native.Nat.{ℕ, zero, suc, _+_, _-_, _≤_, _<_}
+use Prim.Native.Nat.{ℕ, zero, suc, _+_, _-_, _^_, _≤_, _<_}
 use mathlib.Core.Bool.{Bool, true, false, not, _&&_}
 use mathlib.Core.List.{List}
 use mathlib.Core.Logic.{_≢_}
@@ -26,12 +26,12 @@ use Rattle.model.proofs.TestFacts.{pick-has, zeros-are}
 use Rattle.model.proofs.VerdictLaws.{judged-meet}
 use Rattle.state.specs.Look.{lookBack}
 use Rattle.state.proofs.LookLaws.{Between, stamp-before-new, look-before}
+use Rattle.compare.specs.Same.{cycleStands}
+use Rattle.compare.proofs.SameLaws.{cycle-stands}
 use Rattle.recent.specs.Notes.{slots, slotOf, Span, wider, Known, recalled}
 use Rattle.recent.proofs.NoteLaws.{Run, known-none, known-run, recalled-before}
 use Rattle.count.proofs.CountLaws.{Below, counts-none, counts-next, counts-below}
-use Rattle.checker.specs.Steps.{emptyFrom, leadingEmpty, Fitting, cycleNext, withCycle}
-use Rattle.checker.specs.Tmp.{cycleStands}
-use Rattle.checker.proofs.Tmp.{cycle-stands}
+use Rattle.checker.specs.Steps.{emptyFrom, leadingEmpty, cycleNext, withCycle}
 
 -- ---- empty rows
 
@@ -138,10 +138,6 @@ module _ (r : ℕ → Cells) (n : ℕ) (notes : List ℕ) (span : Span) (i cycle
   unfolding cycleNext
   compared some room e = rw (ne-eqb (c .context .cn) 0 some, le-leb (i + suc (lastOf c)) n room) e
 
--- a claim that fits is valid if it has a context
-pub fitting-valid : {c : Claim} → Fitting c → c .context .cn ≢ 0 → ValidClaim c
-fitting-valid fit some = record { some = omega arith; cn = fit .cn; end1 = fit .end1; end2 = fit .end2 }
-
 module _ {r : ℕ → Cells} {n : ℕ} {notes : List ℕ} {span : Span} {done : Counts} {i : ℕ} (w : Walked r n notes span done i) where
   abbrev k : ℕ
   k = done .instructions
@@ -188,16 +184,22 @@ module _ {r : ℕ → Cells} {n : ℕ} {notes : List ℕ} {span : Span} {done : 
     run j h = rw (there j h) (row-used k (before r i (c .context)) c j, is-row (suc k) (before r i (c .context)) c j .context)
 
     -- behind it the next may start; its last row is noted, and it is counted
-    pub walked-next : Fitting c
+    pub walked-next : c .context .cn < 2 ^ 32 → c .end1 < 256 ^ 17 → c .end2 < 256 ^ 17
         → Walked r n (set notes (slotOf (c .context)) (i + lastOf c)) (wider span (c .context)) (withCycle done c) (i + suc (lastOf c))
-    walked-next fit =
-        let valid : ValidClaim c = fitting-valid fit (eqb-false (c .context .cn) 0 (not-true (eqb (c .context .cn) 0) (tests .0 .0))) in
+    walked-next cn end1 end2 =
+        let some : c .context .cn ≢ 0 = eqb-false (c .context .cn) 0 (not-true (eqb (c .context .cn) 0) (tests .0 .0)) in
+        let valid : ValidClaim c = record { some = omega arith; cn = cn; end1 = end1; end2 = end2 } in
         record {
           within = next-fits;
           ready = rw (add-one k) (ready-next r n k c valid i (w .ready) next-fits there);
           known = known-run (w .known) (w .ready .some) (c .context) (lastOf c) run;
           counted = ap (λ (x : Counts). withCycle x c) (w .counted) ∙ sym (counts-cycle r i k c there);
         }
+
+-- a cycle has no more rows than one out of bounds
+pub last-le : (c : Claim) → lastOf c ≤ outLast
+unfolding lastOf
+last-le c = pick-has (λ (k : ℕ). k ≤ outLast) (inBounds c) (λ e. omega arith) (λ e. omega arith)
 
 -- a claim is out of bounds where its cycle has so many rows
 long-by : (c : Claim) (t : Bool) → inBounds c ≡ t → eqb (suc (lastOf c)) (suc outLast) ≡ not t

@@ -1,5 +1,4 @@
 -- The laws and theorems of `checker` that belong to no one function.
 pub mod RowLaws
 pub mod StartLaws
-pub mod Tmp
 pub mod CycleLaws

@@ -1,5 +1,5 @@
 -- What the checker works out as it goes from cycle to cycle.
-use Prim.Native.Nat.{ℕ, zero, suc, _+_, _^_, _<_}
+use Prim.Native.Nat.{ℕ, zero, suc, _+_}
 use mathlib.Core.Bool.{Bool, not, _&&_}
 use mathlib.Core.List.{List}
 use lib.Dec.{eqb, leb}
@@ -7,8 +7,8 @@ use Rattle.model.specs.Columns.{Cells, columns, cellsIn}
 use Rattle.model.specs.Cycles.{Claim, Counts}
 use Rattle.model.specs.Tests.{pick, bit, zeros}
 use Rattle.model.specs.Trace.{inBounds, lastOf}
+use Rattle.compare.specs.Same.{cycleStands}
 use Rattle.recent.specs.Notes.{Span, recalled}
-use Rattle.checker.specs.Tmp.{cycleStands}
 
 -- the first row from row i on that has a cell other than 0, and row i + n if none of the n rows has
 unfoldable pub emptyFrom : (ℕ → Cells) → (i n : ℕ) → ℕ
@@ -18,12 +18,6 @@ emptyFrom r i (suc n) = pick (zeros (cellsIn columns (r i))) (emptyFrom r (suc i
 -- how many of n rows stand first and have no cell but 0
 abbrev pub leadingEmpty : (ℕ → Cells) → ℕ → ℕ
 leadingEmpty r n = emptyFrom r 0 n
-
--- the cells of a claim fit their columns
-pub record Fitting (c : Claim) : Type 0 where
-  pub cn : c .context .cn < 2 ^ 32
-  pub end1 : c .end1 < 256 ^ 17
-  pub end2 : c .end2 < 256 ^ 17
 
 -- the claim has a context, and the rows from row i of n on are its cycle: behind so many cycles, and at the state that is recalled of its context
 unfoldable pub cycleNext : (ℕ → Cells) → (n : ℕ) → (notes : List ℕ) → Span → (i cycles : ℕ) → Claim → Bool

@@ -11,11 +11,14 @@ ghost use Rattle.claim.specs.Told.{plainClaim};
 ghost use Rattle.count.specs.Counts.{plainCounts};
 ghost use Rattle.recent.specs.Notes.{plainSpan, Known, recalled};
 ghost use Rattle.checker.specs.Answer.{told};
-ghost use Rattle.checker.specs.Steps.{leadingEmpty, Fitting, cycleNext, withCycle};
+ghost use Rattle.checker.specs.Steps.{leadingEmpty, cycleNext, withCycle};
 use crate::Verdict;
 use crate::judge::verdict_from;
 use claim::claim::Claim;
+use claim::claim::claim_shown;
+use compare::is_empty;
 use count::Counts;
+use cycle::cycle_is;
 use cycle::rows_of;
 use model::OUT_ROWS;
 use recent::SLOTS;
@@ -24,9 +27,6 @@ use recent::no_span;
 use recent::note;
 use recent::recall;
 use recent::widened;
-use refill::claim_shown;
-use refill::is_cycle;
-use refill::is_empty;
 use words::bit;
 
 // How many of the n rows stand first and are empty.
@@ -45,11 +45,18 @@ fn empty_rows(t: &[u8], n: usize) -> usize
 }
 
 // Whether the rows from row i of n on are the cycle of the claim, behind so many cycles and at the state of its context.
-fn cycle_stands(t: &[u8], n: usize, notes: &[u16; SLOTS], span: Span, i: usize, cycles: usize, c: Claim) -> bool
+fn cycle_stands(
+    t: &[u8],
+    n: usize,
+    notes: &[u16; SLOTS],
+    span: Span,
+    i: usize,
+    cycles: usize,
+    c: Claim,
+) -> bool
     requires { ⌜ n * rowBytes ≤ length (now t) ⌝ }
     requires { ⌜ i ≤ n ⌝ }
     requires { ⌜ cycles < maxRows ⌝ }
-    requires { ⌜ Fitting (plainClaim c) ⌝ }
     requires { ⌜ Known (now notes) (plainSpan span) (rowAt (now t)) i ⌝ }
     requires { ⌜ Sound (recalled (rowAt (now t)) (now notes) (plainSpan span) (context (c .context)) cycles i) ⌝ }
     ensures { λ r. ⌜ r ≡ cycleNext (rowAt (now (t .entry))) n (now (notes .entry)) (plainSpan span) i cycles (plainClaim c) ⌝ }
@@ -62,7 +69,7 @@ fn cycle_stands(t: &[u8], n: usize, notes: &[u16; SLOTS], span: Span, i: usize, 
     }
     let own = c.context;
     let before = recall(t, notes, span, i, cycles, own);
-    is_cycle(t, i, cycles as u32 + 1, before, c)
+    cycle_is(t, i, cycles as u32 + 1, before, c)
 }
 
 // The counts with the cycle of one claim more.
@@ -98,13 +105,14 @@ pub(crate) fn verdict_on(t: &[u8], n: usize) -> Verdict
     }
     while i < n {
         let claim = claim_shown(t, i);
+        let end = i + rows_of(claim);
         if !cycle_stands(t, n, &notes, span, i, c.instructions as usize, claim) {
             return verdict_from(t, n, i, c);
         }
         c = with_cycle(c, claim);
-        i += rows_of(claim);
-        note(&mut notes, claim.context, i - 1);
+        note(&mut notes, claim.context, end - 1);
         span = widened(span, claim.context);
+        i = end;
     }
     Verdict::Accepted(c)
 }

@@ -28,7 +28,7 @@ returns c =
     let asked = c .before in
     let turn = asked .before in
     let l = turn .before .loop in
-    ends-empty _ (l .i) _ (turn .loop-test .taken) ? ∙ l .inv .1
+    ends-empty _ (l .i) _ (turn .loop-test .taken) (sym (asked .is-empty .ensures) ∙ not-true _ (c .if1 .taken)) ∙ l .inv .1
 
 add-i : tie.Need-add-i Inv-loop μ-loop
 add-i c = search needs
@@ -41,7 +41,7 @@ loop-again c =
     let asked = c .before in
     let turn = asked .before in
     let l = turn .before .loop in
-    (search needs, passes-empty _ (l .i) _ (turn .loop-test .taken) ? ∙ l .inv .1)
+    (search needs, passes-empty _ (l .i) _ (turn .loop-test .taken) (sym (asked .is-empty .ensures) ∙ not-false _ (c .if1 .left)) ∙ l .inv .1)
 
 returns-2 : tie.Need-returns-2 Inv-loop μ-loop
 returns-2 c =

@@ -13,9 +13,9 @@ use Rattle.claim.specs.Told.{plainClaim}
 use Rattle.count.specs.Counts.{plainCounts}
 use Rattle.count.proofs.CountLaws.{counts-none}
 use Rattle.recent.specs.Notes.{plainSpan}
-use Rattle.checker.specs.Steps.{Fitting, cycleNext}
+use Rattle.checker.specs.Steps.{cycleNext}
 use Rattle.checker.proofs.RowLaws.{meets-first, told-accepted}
-use Rattle.checker.proofs.CycleLaws.{Walked, walked-first, walked-stamp, walked-few, recalls-sound, next-fits, walked-next}
+use Rattle.checker.proofs.CycleLaws.{Walked, walked-first, walked-stamp, walked-few, recalls-sound, next-fits, walked-next, last-le}
 use Rattle.checker.proofs.cycles.verdict_on.Statement.{statement}
 use Rattle.checker.proofs.cycles.verdict_on.Tie as tie
 
@@ -48,27 +48,22 @@ loop-holds c =
 claim-shown-requires : tie.Need-claim-shown-requires Inv-loop μ-loop
 claim-shown-requires c κs = search needs
 
--- what is compared is what the cells of a claim can be
-fitting : (c : tie.After-claim-shown Inv-loop μ-loop) → Fitting (plainClaim (c .claim-shown .result))
-fitting c =
-    let d = c .claim-shown .result in
-    let ok = c .claim-shown .ok in
-    record {
-      cn = omega (arith, ok);
-      end1 = val-lt (d .end1) (omega (arith, ok)) (omega (arith, ok)) (omega (arith, ok));
-      end2 = val-lt (d .end2) (omega (arith, ok)) (omega (arith, ok)) (omega (arith, ok));
-    }
+rows-of-requires : tie.Need-rows-of-requires Inv-loop μ-loop
+rows-of-requires c κs = search needs
+
+add-end : tie.Need-add-end Inv-loop μ-loop
+add-end c = omega (arith, c .rows-of .ensures, last-le (plainClaim (c .before .claim-shown .result)))
 
 cycle-stands-requires : tie.Need-cycle-stands-requires Inv-loop μ-loop
 cycle-stands-requires c κs =
-    let shown = c .before in
-    let l = shown .before .before .loop in
-    let start = shown .before .before .before .before .before .before .before in
-    (start .pre .0, (l .inv .within, (omega (arith, walked-few (l .inv)), (fitting shown, (l .inv .known, recalls-sound (l .inv) _)))))
+    let at = c .before .before .before .before in
+    let l = at .loop in
+    let start = at .before .before .before .before .before in
+    (start .pre .0, (l .inv .within, (omega (arith, walked-few (l .inv)), (l .inv .known, recalls-sound (l .inv) _))))
 
 verdict-from-requires-2 : tie.Need-verdict-from-requires-2 Inv-loop μ-loop
 verdict-from-requires-2 c κs =
-    let at = c .before .before .before .before .before in
+    let at = c .before .before .before .before .before .before in
     let l = at .loop in
     let start = at .before .before .before .before .before in
     (start .pre .0, (start .pre .1, (l .inv .within, (l .inv .ready .meets, (walked-stamp (l .inv), l .inv .counted)))))
@@ -76,9 +71,14 @@ verdict-from-requires-2 c κs =
 returns-2 : tie.Need-returns-2 Inv-loop μ-loop
 returns-2 c = c .verdict-from2 .ensures
 
+with-cycle-requires : tie.Need-with-cycle-requires Inv-loop μ-loop
+with-cycle-requires c κs =
+    let l = c .before .before .before .before .before .before .loop in
+    (omega (arith, walked-few (l .inv)), omega (arith, walked-few (l .inv)))
+
 -- the cycle stands
 stands : (c : tie.Else2 Inv-loop μ-loop)
-    → let shown = c .before .before .before in
+    → let shown = c .before .before .before .before in
     let at = shown .before .before in
     let l = at .loop in
     let a = at .before .before .before .before .before .args in
@@ -87,51 +87,51 @@ stands c =
     let asked = c .before .cycle-stands in
     sym (asked .ensures) ∙ not-false (asked .result) (c .if2 .left)
 
-with-cycle-requires : tie.Need-with-cycle-requires Inv-loop μ-loop
-with-cycle-requires c κs =
-    let l = c .before .before .before .before .before .loop in
-    (omega (arith, walked-few (l .inv)), omega (arith, walked-few (l .inv)))
-
-rows-of-requires : tie.Need-rows-of-requires Inv-loop μ-loop
-rows-of-requires c κs = search needs
-
--- its rows are there
-fits : (c : tie.After-rows-of Inv-loop μ-loop)
-    → let at = c .before .before .before .before .before .before .before in
-    at .loop .i + c .rows-of .result ≤ at .before .before .before .before .before .args .n
+-- so its rows are there
+fits : (c : tie.Else2 Inv-loop μ-loop)
+    → let rows = c .before .before .before in
+    let at = rows .before .before .before in
+    at .loop .i + rows .rows-of .result ≤ at .before .before .before .before .before .args .n
 fits c =
-    let turn = c .before .before in
-    rw (c .rows-of .ensures) (next-fits (turn .before .before .before .before .before .loop .inv) _ (stands turn))
-
-add-i : tie.Need-add-i Inv-loop μ-loop
-add-i c = omega (arith, fits c)
+    let rows = c .before .before .before in
+    rw (rows .rows-of .ensures) (next-fits (rows .before .before .before .loop .inv) _ (stands c))
 
 sub-note : tie.Need-sub-note Inv-loop μ-loop
-sub-note c = omega (arith, c .before .rows-of .ensures)
+sub-note c =
+    let l = c .before .before .before .before .before .before .before .before .loop in
+    omega (arith, l .inv .ready .some)
 
 note-requires : tie.Need-note-requires Inv-loop μ-loop
-note-requires c κs = omega (arith, fits (c .before), c .before .rows-of .ensures)
+note-requires c κs =
+    let turn = c .before .before in
+    let at = turn .before .before .before .before .before .before in
+    let start = at .before .before .before .before .before in
+    omega (arith, fits turn, at .loop .inv .ready .some, start .pre .1)
 
 widened-requires : tie.Need-widened-requires Inv-loop μ-loop
 widened-requires c κs = search needs
 
 loop-less : tie.Need-loop-less Inv-loop μ-loop
 loop-less c =
-    let rows = c .before .before .before in
-    omega (arith, fits rows, rows .rows-of .ensures)
+    let turn = c .before .before .before .before in
+    omega (arith, fits turn, turn .before .before .before .rows-of .ensures)
 
 loop-again : tie.Need-loop-again Inv-loop μ-loop
 loop-again c =
     let noted = c .before in
-    let rows = noted .before .before in
-    let counted = rows .before in
+    let counted = noted .before .before in
     let turn = counted .before in
-    let shown = turn .before .before .before in
+    let rows = turn .before .before .before in
+    let shown = rows .before in
+    let held = shown .claim-shown .result in
+    let ok = shown .claim-shown .ok in
     let l = shown .before .before .loop in
-    let d = plainClaim (shown .claim-shown .result) in
+    let d = plainClaim held in
     let last : l .i + rows .rows-of .result - 1 ≡ l .i + lastOf d = omega (arith, rows .rows-of .ensures) in
     rw (noted .note .ensures, last, c .widened .ensures, counted .with-cycle .ensures, rows .rows-of .ensures)
-    (walked-next (l .inv) d (stands turn) (fitting shown))
+    (walked-next (l .inv) d (stands turn) (omega (arith, ok))
+    (val-lt (held .end1) (omega (arith, ok)) (omega (arith, ok)) (omega (arith, ok)))
+    (val-lt (held .end2) (omega (arith, ok)) (omega (arith, ok)) (omega (arith, ok))))
 
 returns-3 : tie.Need-returns-3 Inv-loop μ-loop
 returns-3 c =
@@ -150,12 +150,12 @@ verdict-on-spec =
     returns
     loop-holds
     claim-shown-requires
+    rows-of-requires
+    add-end
     cycle-stands-requires
     verdict-from-requires-2
     returns-2
     with-cycle-requires
-    rows-of-requires
-    add-i
     sub-note
     note-requires
     widened-requires
