@@ -22,8 +22,8 @@ use Rattle.model.proofs.RowBytes.{AllFit, length-bytes, bytes-append, row-betwe
 use Rattle.model.proofs.StateLaws.{all-sound-fresh}
 use Rattle.row.proofs.RowLaws.{write-more}
 use Rattle.state.specs.Plain.{context}
-use Rattle.recent.specs.Notes.{slots, slotOf, Span, wider, Known, recalled}
-use Rattle.recent.proofs.NoteLaws.{known-same}
+use Rattle.recent.specs.Notes.{slots, slotOf, Notes, recalled}
+use Rattle.recent.proofs.NoteLaws.{notes-same}
 use Rattle.claim.specs.Claims.{claimOf}
 use Rattle.claim.specs.Instruction.{Instruction}
 use Rattle.claim.specs.Told.{toldInstruction, plainInstruction, toldClaim, plainClaim}
@@ -35,7 +35,7 @@ use Rattle.list.specs.declared.Next.the-variants.{One}
 use Rattle.list.proofs.ListLaws.{list-valid}
 use Rattle.lines.specs.Lines.{rowsOfClaims, Lists, claimsListed, listClaims}
 use Rattle.lines.proofs.ReadLaws.{claim-told, rows-snoc, Comes, Reached, reached-start, reached-next, reached-more, reached-all}
-use Rattle.lines.proofs.RecallLaws.{traceRow, known-empty, known-claim, recalled-after}
+use Rattle.lines.proofs.RecallLaws.{traceRow, notes-empty, notes-claim, recalled-after}
 
 -- ---- zeros
 
@@ -69,28 +69,27 @@ read-trace {buf} l n cs empty bytes fit room j h =
 -- ---- the cycles of a list
 
 -- k lines of the text t were read, up to the place `at`, and the cycles of their instructions are written from row `first` up to row `row`, behind empty rows
--- and with notes on all of them and their contexts in the span; the other bytes are those of l
-pub record Filling (t l buf notes : List ℕ) (span : Span) (first at row k : ℕ) : Type 0 where
+-- and with notes on all of them; the other bytes are those of l
+pub record Filling (t l buf notes : List ℕ) (first at row k : ℕ) : Type 0 where
   pub done : List Instruction
   pub reached : Reached t done k at
   pub rows : row ≡ first + rowsOfClaims (map claimOf done)
   pub bytes : buf ≡ sets l (first * rowBytes) (bytesOf (cyclesOf 1 fresh (map claimOf done)))
-  pub known : Known notes span (traceRow first (map claimOf done)) row
+  pub noted : Notes notes (traceRow first (map claimOf done)) row
 
 -- before the first line nothing is written and nothing noted
-pub filling-first : (t l : List ℕ) (span : Span) (first : ℕ) → Filling t l l (replicate slots 0) span first 0 first 0
+pub filling-first : (t l : List ℕ) (first : ℕ) → Filling t l l (replicate slots 0) first 0 first 0
 unfolding cyclesOf bytesOf
-filling-first t l span first =
-    record { done = []; reached = reached-start t; rows = sym (add-zero first); bytes = refl; known = known-empty span first }
+filling-first t l first = record { done = []; reached = reached-start t; rows = sym (add-zero first); bytes = refl; noted = notes-empty first }
 
 -- there are as many bytes as before
-pub length-kept : {t l buf notes : List ℕ} {span : Span} {first at row k : ℕ} → Filling t l buf notes span first at row k → length buf ≡ length l
+pub length-kept : {t l buf notes : List ℕ} {first at row k : ℕ} → Filling t l buf notes first at row k → length buf ≡ length l
 length-kept {l = l} {first = first} f = ap length (f .bytes) ∙ length-sets l (first * rowBytes) (bytesOf (cyclesOf 1 fresh (map claimOf (f .done))))
 
 claims-each : {t : List ℕ} {lines : ℕ} (lists : Lists t lines) → listClaims t ≡ map claimOf (lists .each)
 claims-each lists = ap claimsListed (lists .read)
 
-module _ {t l buf notes : List ℕ} {span : Span} {first lines at row k : ℕ} (lists : Lists t lines) (f : Filling t l buf notes span first at row k) where
+module _ {t l buf notes : List ℕ} {first lines at row k : ℕ} (lists : Lists t lines) (f : Filling t l buf notes first at row k) where
   -- after the last line the cycles of all of them are written
   pub filling-all : k ≡ lines → buf ≡ sets l (first * rowBytes) (bytesOf (cyclesOf 1 fresh (listClaims t)))
   filling-all e =
@@ -115,20 +114,20 @@ told-same l x {i} {j} {q} {r} e told =
 
 -- one turn: lines are left of a list whose rows are no more than a trace may have and have room in l, behind the empty rows there; the code holds the next
 -- line as the instruction i and the place q after it, and its claim as c
-pub record Turn (t l buf notes : List ℕ) (span : Span) (first lines at row k q : ℕ) (i : code.Instruction) (c : held.Claim) : Type 0 where
+pub record Turn (t l buf notes : List ℕ) (first lines at row k q : ℕ) (i : code.Instruction) (c : held.Claim) : Type 0 where
   pub lists : Lists t lines
   pub some : 0 < first
   pub empty : take (first * rowBytes) l ≡ bytesOf (replicate first emptyRow)
   pub few : first + rowsOfClaims (listClaims t) ≤ maxRows
   pub room : (first + rowsOfClaims (listClaims t)) * rowBytes ≤ length l
-  pub filling : Filling t l buf notes span first at row k
+  pub filling : Filling t l buf notes first at row k
   pub less : k < lines
   pub told : toldNext (k + 1) (nextLine t at) ≡ One i q
   pub made : c ≡ toldClaim (claimOf (plainInstruction i))
 
-module _ {t l buf notes : List ℕ} {span : Span} {first lines at row k q : ℕ} {i : code.Instruction} {c : held.Claim}
-    (turn : Turn t l buf notes span first lines at row k q i c) where
-  abbrev f : Filling t l buf notes span first at row k
+module _ {t l buf notes : List ℕ} {first lines at row k q : ℕ} {i : code.Instruction} {c : held.Claim}
+    (turn : Turn t l buf notes first lines at row k q i c) where
+  abbrev f : Filling t l buf notes first at row k
   f = turn .filling
 
   abbrev claims : List Claim
@@ -175,58 +174,56 @@ module _ {t l buf notes : List ℕ} {span : Span} {first lines at row k q : ℕ}
       let fit = trace-fits first claims valid (omega (arith, count-is, few-claims)) in
       read-trace l first claims (turn .empty) (f .bytes) fit (omega (arith, turn .room, rows-there))
 
-  known-there : Known notes span (traceRow first claims) (length (trace first claims))
-  known-there = subst (Known notes span (traceRow first claims)) row-is (f .known)
+  noted-there : Notes notes (traceRow first claims) (length (trace first claims))
+  noted-there = subst (Notes notes (traceRow first claims)) row-is (f .noted)
 
   -- the state that is recalled is the one after the claims
-  recalls : (x : Context) → recalled (rowAt buf) notes span x k row ≡ afterClaims fresh claims x
+  recalls : (x : Context) → recalled (rowAt buf) notes x k row ≡ afterClaims fresh claims x
   recalls x =
-      ap₂ (recalled (rowAt buf) notes span x) count-is row-is ∙ recalled-after first claims (turn .some) valid there known-there x
+      ap₂ (recalled (rowAt buf) notes x) count-is row-is ∙ recalled-after first claims (turn .some) valid there noted-there x
 
   -- with the next cycle there are no more rows than a trace may have
   pub rows-within : row + suc (lastOf (plainClaim c)) ≤ maxRows
   rows-within = omega (arith, turn .few, rows-there, ap lastOf own, f .rows)
 
-  -- there is room for it, there are fewer cycles than a trace may have rows, the rows before are known, and the recalled state is sound
+  -- there is room for it, there are fewer cycles than a trace may have rows, the notes are those on the rows before, and the recalled state is sound
   pub next-asked : ((row + suc (lastOf (plainClaim c))) * rowBytes ≤ length buf)
-      × ((k < maxRows) × (Known notes span (rowAt buf) row × Sound (recalled (rowAt buf) notes span (context (c .context)) k row)))
+      × ((k < maxRows) × (Notes notes (rowAt buf) row × Sound (recalled (rowAt buf) notes (context (c .context)) k row)))
   next-asked = (
     omega (arith, turn .room, rows-there, ap lastOf own, length-kept f, f .rows),
     (
       few-claims,
       (
-        known-same (f .known) (rowAt buf) (λ j h. there j (omega (arith, row-is))),
+        notes-same (f .noted) (rowAt buf) (λ j h. there j (omega (arith, row-is))),
         rw (recalls (context (c .context))) (all-sound-claims fresh claims all-sound-fresh (context (c .context))),
       ),
     ),
   )
 
-  cycle-is : cycleOf (suc k) (recalled (rowAt buf) notes span (context (c .context)) k row) (plainClaim c) ≡ cycleAfter claims next
+  cycle-is : cycleOf (suc k) (recalled (rowAt buf) notes (context (c .context)) k row) (plainClaim c) ≡ cycleAfter claims next
   cycle-is =
       ap (λ (s : State). cycleOf (suc k) s (plainClaim c)) (recalls (context (c .context)))
       ∙ ap (λ (d : Claim). cycleOf (suc k) (afterClaims fresh claims (d .context)) d) own
       ∙ ap (λ (n : ℕ). cycleOf (suc n) (afterClaims fresh claims (next .context)) next) count-is
 
   -- once it is written at that state and the last of its n rows is noted, one line more was read and its cycle written
-  pub filling-next : {m noted : List ℕ} {wide : Span} {n : ℕ} → n ≡ suc (lastOf (plainClaim c))
-      → m ≡ sets buf (row * rowBytes) (bytesOf (cycleOf (suc k) (recalled (rowAt buf) notes span (context (c .context)) k row) (plainClaim c)))
-      → noted ≡ set notes (slotOf (context (c .context))) (row + n - 1) → wide ≡ wider span (context (c .context))
-      → Filling t l m noted wide first q (row + n) (suc k)
+  pub filling-next : {m noted : List ℕ} {n : ℕ} → n ≡ suc (lastOf (plainClaim c))
+      → m ≡ sets buf (row * rowBytes) (bytesOf (cycleOf (suc k) (recalled (rowAt buf) notes (context (c .context)) k row) (plainClaim c)))
+      → noted ≡ set notes (slotOf (context (c .context))) (suc (row + n - 1)) → Filling t l m noted first q (row + n) (suc k)
   unfolding trace
-  filling-next {m} {noted} {wide} {n} count e g s =
+  filling-next {m} {noted} {n} count e g =
       let with : map claimOf (f .done ++ (more .0 ∷ [])) ≡ claims ++ (next ∷ []) = map-append claimOf (f .done) (more .0 ∷ []) in
       let rows : cyclesOf 1 fresh (claims ++ (next ∷ [])) ≡ cyclesOf 1 fresh claims ++ cycleAfter claims next = trace-snoc 0 claims next in
       let written : m ≡ sets buf ((first + rowsOfClaims claims) * rowBytes) (bytesOf (cycleAfter claims next)) =
       e ∙ ap₂ (λ (p : ℕ) (xs : List Cells). sets buf (p * rowBytes) (bytesOf xs)) (f .rows) cycle-is in
       let end : row + n ≡ length (trace first claims) + suc (lastOf next) = omega (arith, row-is, count, ap lastOf own) in
-      let last : row + n - 1 ≡ length (trace first claims) + lastOf next = omega (arith, end) in
-      let latest : noted ≡ set notes (slotOf (next .context)) (length (trace first claims) + lastOf next) =
+      let last : suc (row + n - 1) ≡ length (trace first claims) + suc (lastOf next) = omega (arith, end) in
+      let latest : noted ≡ set notes (slotOf (next .context)) (length (trace first claims) + suc (lastOf next)) =
       g ∙ ap₂ (λ (d : Claim) (p : ℕ). set notes (slotOf (d .context)) p) own last in
-      let seen : wide ≡ wider span (next .context) = s ∙ ap (λ (d : Claim). wider span (d .context)) own in
       record {
         done = f .done ++ (more .0 ∷ []);
         reached = reached-next (f .reached) (more .3 ∙ ap (one (more .0)) (sym (held-is .1))) .0;
         rows = rw (with, rows-snoc claims next) (omega (arith, f .rows, count, ap lastOf own));
         bytes = rw (with, rows) (write-more l first (rowsOfClaims claims) (cyclesOf 1 fresh claims) (cycleAfter claims next) refl (f .bytes) written);
-        known = rw (with, latest, seen, end) (known-claim first claims next (turn .some) known-there);
+        noted = rw (with, latest, end) (notes-claim first claims next noted-there);
       }

@@ -8,7 +8,7 @@ ghost use Rattle.model.specs.State.{Sound, fresh};
 ghost use Rattle.model.specs.Trace.{lastOf, cycleOf, cyclesOf};
 ghost use Rattle.model.specs.Verdict.{maxRows};
 ghost use Rattle.state.specs.Plain.{context};
-ghost use Rattle.recent.specs.Notes.{plainSpan, Known, recalled};
+ghost use Rattle.recent.specs.Notes.{Notes, recalled};
 ghost use Rattle.claim.specs.Told.{plainClaim};
 ghost use Rattle.lines.specs.Lines.{Lists, listClaims, rowsOfClaims};
 use claim::claim::Claim;
@@ -19,11 +19,8 @@ use list::Next;
 use list::next_line;
 use model::ROW_BYTES;
 use recent::SLOTS;
-use recent::Span;
-use recent::no_span;
 use recent::note;
 use recent::recall;
-use recent::widened;
 
 // Writes so many empty rows, from the first on.
 pub fn put_empty(buf: &mut [u8], rows: usize)
@@ -38,17 +35,17 @@ pub fn put_empty(buf: &mut [u8], rows: usize)
     }
 }
 
-// Writes the cycle of one claim more from this row on, behind so many cycles: its context has the state that is recalled by what is known of the rows before.
-fn put_claim(buf: &mut [u8], notes: &[u16; SLOTS], span: Span, row: usize, cycles: usize, c: Claim)
+// Writes the cycle of one claim more from this row on, behind so many cycles: its context has the state that is recalled by the notes on the rows before.
+fn put_claim(buf: &mut [u8], notes: &[u32; SLOTS], row: usize, cycles: usize, c: Claim)
     requires { ⌜ (row + suc (lastOf (plainClaim c))) * rowBytes ≤ length (now buf) ⌝ }
     requires { ⌜ cycles < maxRows ⌝ }
-    requires { ⌜ Known (now notes) (plainSpan span) (rowAt (now buf)) row ⌝ }
-    requires { ⌜ Sound (recalled (rowAt (now buf)) (now notes) (plainSpan span) (context (c .context)) cycles row) ⌝ }
+    requires { ⌜ Notes (now notes) (rowAt (now buf)) row ⌝ }
+    requires { ⌜ Sound (recalled (rowAt (now buf)) (now notes) (context (c .context)) cycles row) ⌝ }
     ensures { λ _. ⌜ now (buf .exit) ≡ sets (now (buf .entry)) (row * rowBytes)
-        (bytesOf (cycleOf (suc cycles) (recalled (rowAt (now (buf .entry))) (now (notes .entry)) (plainSpan span) (context (c .context)) cycles row) (plainClaim c))) ⌝ }
+        (bytesOf (cycleOf (suc cycles) (recalled (rowAt (now (buf .entry))) (now (notes .entry)) (context (c .context)) cycles row) (plainClaim c))) ⌝ }
 {
     let own = c.context;
-    let before = recall(buf, notes, span, row, cycles, own);
+    let before = recall(buf, notes, row, cycles, own);
     put_cycle(buf, row, cycles as u32 + 1, before, c);
 }
 
@@ -61,8 +58,7 @@ pub fn put_lines(list: &[u8], lines: usize, buf: &mut [u8], first: usize)
     requires { ⌜ (first + rowsOfClaims (listClaims (now list))) * rowBytes ≤ length (now buf) ⌝ }
     ensures { λ _. ⌜ now (buf .exit) ≡ sets (now (buf .entry)) (first * rowBytes) (bytesOf (cyclesOf 1 fresh (listClaims (now (list .entry))))) ⌝ }
 {
-    let mut notes: [u16; SLOTS] = [0; SLOTS];
-    let mut span = no_span();
+    let mut notes: [u32; SLOTS] = [0; SLOTS];
     let mut at: usize = 0;
     let mut row = first;
     let mut done: usize = 0;
@@ -73,10 +69,9 @@ pub fn put_lines(list: &[u8], lines: usize, buf: &mut [u8], first: usize)
             return;
         };
         let c = claim_of(instruction);
-        put_claim(buf, &notes, span, row, done, c);
+        put_claim(buf, &notes, row, done, c);
         row += rows_of(c);
         note(&mut notes, c.context, row - 1);
-        span = widened(span, c.context);
         at = next;
         done += 1;
     }

@@ -4,14 +4,14 @@ use native.Mathlib.Numerals.{add-one}
 use borrow.Author.Needs.{needs}
 use Rattle.model.specs.Columns.{rowAt}
 use Rattle.state.specs.Plain.{context, state}
-use Rattle.recent.specs.Notes.{plainSpan, recalled}
+use Rattle.recent.specs.Notes.{recalled}
 use Rattle.lines.proofs.put_claim.Statement.{statement}
 use Rattle.lines.proofs.put_claim.Tie as tie
 
 -- the state that the call answers
 answers : (c : tie.After-recall)
     → let a = c .before .before .before .before .args in
-    state (c .recall .result) ≡ recalled (rowAt (a .buf .now)) (a .notes .now) (plainSpan (a .span)) (context (a .c .context)) (a .cycles) (a .row)
+    state (c .recall .result) ≡ recalled (rowAt (a .buf .now)) (a .notes .now) (context (a .c .context)) (a .cycles) (a .row)
 answers c = c .recall .ensures
 
 recall-requires : tie.Need-recall-requires

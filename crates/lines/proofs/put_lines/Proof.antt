@@ -9,23 +9,18 @@ use native.Mathlib.Omega.{arith}
 use borrow.Author.Needs.{needs}
 use Rattle.list.specs.List.{nextLine}
 use Rattle.list.specs.Told.{toldNext}
-use Rattle.recent.specs.Notes.{plainSpan}
 use Rattle.lines.proofs.WriteLaws.{Filling, filling-first, length-kept, filling-all, filling-line, Turn, rows-within, next-asked, filling-next}
 use Rattle.lines.proofs.put_lines.Statement.{statement}
 use Rattle.lines.proofs.put_lines.Tie as tie
 
 abbrev Inv-loop : tie.InvT-loop
-Inv-loop list lines buf₀ first notes₀ span₀ at₀ row₀ done₀ buf notes span at row done =
-    (done ≤ lines) × Filling list buf₀ buf notes (plainSpan span) first at row done
+Inv-loop list lines buf₀ first notes₀ at₀ row₀ done₀ buf notes at row done = (done ≤ lines) × Filling list buf₀ buf notes first at row done
 
 abbrev μ-loop : tie.MeasureT-loop
-μ-loop list lines buf₀ first notes₀ span₀ at₀ row₀ done₀ buf notes span at row done = lines - done
-
-no-span-requires : tie.Need-no-span-requires Inv-loop μ-loop
-no-span-requires c κs = search needs
+μ-loop list lines buf₀ first notes₀ at₀ row₀ done₀ buf notes at row done = lines - done
 
 loop-holds : tie.Need-loop-holds Inv-loop μ-loop
-loop-holds c = (search needs, filling-first _ _ _ _)
+loop-holds c = (search needs, filling-first _ _ _)
 
 add-next-line : tie.Need-add-next-line Inv-loop μ-loop
 add-next-line c = search needs
@@ -60,7 +55,7 @@ turn : (c : tie.After-claim-of Inv-loop μ-loop)
     let l = line .before .before .before .before .loop in
     let a = line .before .before .before .before .before .before .before .args in
     let one = line .line .given .0 in
-    Turn (a .list .now) (a .buf .now) (l .buf) (l .notes) (plainSpan (l .span)) (a .first) (a .lines) (l .at) (l .row) (l .done) (one .1 .0) (one .0) (c .claim-of .result)
+    Turn (a .list .now) (a .buf .now) (l .buf) (l .notes) (a .first) (a .lines) (l .at) (l .row) (l .done) (one .1 .0) (one .0) (c .claim-of .result)
 turn c =
     let line = c .before .before in
     let read = line .before .before in
@@ -99,9 +94,6 @@ note-requires c κs =
     let rows = c .before in
     omega (arith, rows-within (turn (made rows)), rows .rows-of .ensures)
 
-widened-requires : tie.Need-widened-requires Inv-loop μ-loop
-widened-requires c κs = search needs
-
 add-done : tie.Need-add-done Inv-loop μ-loop
 add-done c =
     let rows = c .before .before in
@@ -131,7 +123,6 @@ put-lines-spec =
     (tie.spec
     Inv-loop
     μ-loop
-    no-span-requires
     loop-holds
     add-next-line
     next-line-requires
@@ -144,7 +135,6 @@ put-lines-spec =
     add-row
     sub-note
     note-requires
-    widened-requires
     add-done
     loop-less
     loop-again
