@@ -1,4 +1,3 @@
--- The laws of `beyond` that belong to no one function.
+-- The laws of `beyond`.
 pub mod ShiftLaws
 pub mod TableLaws
-pub mod RestLaws

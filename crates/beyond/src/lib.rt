@@ -1,6 +1,6 @@
-// The cycle of an out-of-bounds claim: 17 rows, which carry the state on and spell how far an end is beyond the bound. Only crates of this
-// repository call `put_beyond`.
-ghost use mathlib.Core.Bool.{true, false};
+// The cycle of an out-of-bounds claim: 17 rows, which carry the state on and spell how far an end is beyond the bound, written to a lent buffer or compared
+// with a trace. Only crates of this repository call these functions.
+ghost use mathlib.Core.Bool.{false};
 ghost use mathlib.Core.Path.{_≡_};
 ghost use Prim.Native.Nat.{suc, _+_, _*_, _≤_};
 ghost use lib.ListN.{length};
@@ -11,30 +11,24 @@ ghost use Rattle.model.specs.Columns.{rowBytes, rowAt, bytesOf};
 ghost use Rattle.model.specs.Constraints.{outLast};
 ghost use Rattle.model.specs.State.{Sound};
 ghost use Rattle.model.specs.Trace.{inBounds, beyondBy, outRow, cycleOf};
-ghost use Rattle.row.specs.Plain.{HeadAt, plain};
-ghost use Rattle.beyond.specs.Rest.{RestAt};
+ghost use Rattle.row.specs.Plain.{plain};
+ghost use Rattle.compare.specs.Same.{sameCells, cycleStands};
 ghost use Rattle.state.specs.Plain.{state};
 ghost use Rattle.claim.specs.Told.{plainClaim};
-ghost use Rattle.alike.specs.Stands.{CycleStands};
-use cell::read::u8_at;
-use cell::read::u24_at;
-use cell::read::u32_at;
-use cell::read::wide_at;
 use claim::claim::Claim;
+use compare::from_comp_is;
+use compare::up_to_gas_is;
 use model::OUT_LAST;
 use model::ROW_BYTES;
 use number::wide::Wide;
 use number::wide::in_bounds;
 use number::wide::minus_bound;
 use number::wide::push;
-use number::wide::same;
 use number::wide::small;
 use row::cells::Body;
 use row::cells::Head;
 use row::cells::Row;
 use row::cells::empty_row;
-use row::place;
-use same::same_bytes;
 use state::State;
 use writer::put_row;
 
@@ -109,59 +103,25 @@ pub fn put_beyond(buf: &mut [u8], row: usize, stamp: u32, s: State, c: Claim)
     }
 }
 
-// Whether the row whose first byte is at p has these cells up to ACC2.
-fn front_is(t: &[u8], p: usize, x: Head) -> bool
-    requires { ⌜ p + rowBytes ≤ length (now t) ⌝ }
-    ensures { λ r. ⌜ (r ≡ true → HeadAt (now (t .entry)) p x) ⌝ }
-{
-    let end1 = x.end1;
-    let end2 = x.end2;
-    let acc1 = x.acc1;
-    (u32_at(t, p + place::STAMP) == x.stamp)
-        & (u32_at(t, p + place::CN) == x.cn)
-        & (u8_at(t, p + place::OOOB) == x.ooob)
-        & (u8_at(t, p + place::CT) == x.ct)
-        & same(wide_at(t, p + place::END1), end1)
-        & same(wide_at(t, p + place::END2), end2)
-        & (u8_at(t, p + place::BYTE1) == x.byte1)
-        & (u8_at(t, p + place::BYTE2) == x.byte2)
-        & same(wide_at(t, p + place::ACC1), acc1)
-        & (u24_at(t, p + place::ACC2) == x.acc2)
-}
-
-// Whether it carries this state on, and has no other cells.
-fn rest_is(t: &[u8], p: usize, mem: u32, cost: u32) -> bool
-    requires { ⌜ p + rowBytes ≤ length (now t) ⌝ }
-    ensures { λ r. ⌜ (r ≡ true → RestAt (now (t .entry)) p mem cost) ⌝ }
-{
-    let none: [u8; 34] = [0; 34];
-    (u24_at(t, p + place::MEM) == mem)
-        & (u24_at(t, p + place::MEMN) == mem)
-        & (u32_at(t, p + place::COST) == cost)
-        & (u32_at(t, p + place::COSTN) == cost)
-        & same_bytes(t, p + place::GAS, &none, 34)
-}
-
-// Whether row k is row i of the cycle, whose BYTE1 and ACC1 are these.
+// Whether row k of a trace is row i of the cycle, whose BYTE1 and ACC1 are these.
 fn out_is(t: &[u8], k: usize, stamp: u32, s: State, c: Claim, i: u8, byte: u8, acc: Wide) -> bool
     requires { ⌜ (k + 1) * rowBytes ≤ length (now t) ⌝ }
     requires { ⌜ Sound (state s) ⌝ }
     requires { ⌜ byte ≡ digitAt outLast (beyondBy (plainClaim c)) i ⌝ }
     requires { ⌜ val acc ≡ prefixAt outLast (beyondBy (plainClaim c)) i ⌝ }
-    ensures { λ r. ⌜ (r ≡ true → rowAt (now (t .entry)) k ≡ outRow stamp (state s) (plainClaim c) i) ⌝ }
+    ensures { λ r. ⌜ r ≡ sameCells (rowAt (now (t .entry)) k) (outRow stamp (state s) (plainClaim c) i) ⌝ }
 {
     let p = k * ROW_BYTES;
     let x = row_of(stamp, s, c, i, byte, acc);
-    let head = x.head;
-    front_is(t, p, head) & rest_is(t, p, s.mem.0, s.cost.0 as u32)
+    up_to_gas_is(t, p, x) & from_comp_is(t, p, x)
 }
 
-// Whether the cycle stands from this row on.
+// Whether the cycle stands in a trace from this row on.
 pub fn beyond_is(t: &[u8], row: usize, stamp: u32, s: State, c: Claim) -> bool
     requires { ⌜ (row + suc outLast) * rowBytes ≤ length (now t) ⌝ }
     requires { ⌜ Sound (state s) ⌝ }
     requires { ⌜ inBounds (plainClaim c) ≡ false ⌝ }
-    ensures { λ r. ⌜ (r ≡ true → CycleStands (rowAt (now (t .entry))) row stamp (state s) (plainClaim c)) ⌝ }
+    ensures { λ r. ⌜ r ≡ cycleStands (rowAt (now (t .entry))) row stamp (state s) (plainClaim c) ⌝ }
 {
     let mut rest = beyond_by(c);
     let mut acc = small(0);

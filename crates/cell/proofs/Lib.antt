@@ -1,2 +1,3 @@
 -- The laws of `cell`.
 pub mod LowLaws
+pub mod ReadLaws

@@ -1,30 +1,40 @@
-// Big-endian numbers of 1, 3, 4 and 17 bytes, read from a slice of bytes. Only crates of this repository call these
-// readers: each asks that its bytes are there.
+// Big-endian numbers of 1, 2, 3, 4, 6, 8 and 17 bytes, read from a slice of bytes: a little-endian load, and its bytes the other way round. Only crates of this
+// repository call these readers: each asks that its bytes are there.
 ghost use mathlib.Core.Path.{_≡_};
-ghost use Prim.Native.Nat.{_+_, _*_, _≤_, _<_};
+ghost use Prim.Native.Nat.{_+_, _≤_};
 ghost use lib.ListN.{length};
 ghost use Rattle.number.specs.Num.{num};
 ghost use Rattle.number.specs.Whole.{val};
+ghost use Rattle.cell.specs.Low.{lowNum};
+use crate::join::join_1_1;
+use crate::join::join_2_2;
+use crate::join::join_4_4;
+use crate::swap::swap16;
+use crate::swap::swap32;
+use crate::swap::swap64;
 use number::wide::Wide;
 
-// A cast as a call: its contract hands the bound on.
-fn as_u64(x: u32) -> u64
-    ensures { λ r. ⌜ (r ≡ x) × (r < 4294967296) ⌝ }
+// The little-endian number in the two, four and eight bytes from p on.
+
+fn low16_at(t: &[u8], p: usize) -> u16
+    requires { ⌜ p + 2 ≤ length (now t) ⌝ }
+    ensures { λ r. ⌜ r ≡ lowNum (now (t .entry)) p 2 ⌝ }
 {
-    x as u64
+    join_1_1(t[p + 1], t[p])
 }
 
-// The number in three bytes, and in four.
-fn three(a: u8, b: u8, c: u8) -> u32
-    ensures { λ r. ⌜ (r ≡ (a * 256 + b) * 256 + c) × (r < 16777216) ⌝ }
+fn low32_at(t: &[u8], p: usize) -> u32
+    requires { ⌜ p + 4 ≤ length (now t) ⌝ }
+    ensures { λ r. ⌜ r ≡ lowNum (now (t .entry)) p 4 ⌝ }
 {
-    ((a as u32) * 256 + (b as u32)) * 256 + (c as u32)
+    join_2_2(low16_at(t, p + 2), low16_at(t, p))
 }
 
-fn four(a: u8, b: u8, c: u8, d: u8) -> u32
-    ensures { λ r. ⌜ r ≡ ((a * 256 + b) * 256 + c) * 256 + d ⌝ }
+fn low64_at(t: &[u8], p: usize) -> u64
+    requires { ⌜ p + 8 ≤ length (now t) ⌝ }
+    ensures { λ r. ⌜ r ≡ lowNum (now (t .entry)) p 8 ⌝ }
 {
-    three(a, b, c) * 256 + (d as u32)
+    join_4_4(low32_at(t, p + 4), low32_at(t, p))
 }
 
 // The byte at p.
@@ -35,12 +45,12 @@ pub fn u8_at(t: &[u8], p: usize) -> u8
     t[p]
 }
 
-// The number in the three bytes from p on.
-pub fn u24_at(t: &[u8], p: usize) -> u32
-    requires { ⌜ p + 3 ≤ length (now t) ⌝ }
-    ensures { λ r. ⌜ r ≡ num (now (t .entry)) p 3 ⌝ }
+// The number in the two bytes from p on.
+pub fn u16_at(t: &[u8], p: usize) -> u16
+    requires { ⌜ p + 2 ≤ length (now t) ⌝ }
+    ensures { λ r. ⌜ r ≡ num (now (t .entry)) p 2 ⌝ }
 {
-    three(t[p], t[p + 1], t[p + 2])
+    swap16(low16_at(t, p))
 }
 
 // The number in the four bytes from p on.
@@ -48,15 +58,31 @@ pub fn u32_at(t: &[u8], p: usize) -> u32
     requires { ⌜ p + 4 ≤ length (now t) ⌝ }
     ensures { λ r. ⌜ r ≡ num (now (t .entry)) p 4 ⌝ }
 {
-    four(t[p], t[p + 1], t[p + 2], t[p + 3])
+    swap32(low32_at(t, p))
 }
 
-// The number in the eight bytes from p on, by its halves.
+// The number in the eight bytes from p on.
 pub fn u64_at(t: &[u8], p: usize) -> u64
     requires { ⌜ p + 8 ≤ length (now t) ⌝ }
     ensures { λ r. ⌜ r ≡ num (now (t .entry)) p 8 ⌝ }
 {
-    as_u64(u32_at(t, p)) * 4294967296 + as_u64(u32_at(t, p + 4))
+    swap64(low64_at(t, p))
+}
+
+// The number in the three bytes from p on. Four bytes are read at once: it asks that a fourth is there.
+pub fn u24_at(t: &[u8], p: usize) -> u32
+    requires { ⌜ p + 4 ≤ length (now t) ⌝ }
+    ensures { λ r. ⌜ r ≡ num (now (t .entry)) p 3 ⌝ }
+{
+    u32_at(t, p) / 256
+}
+
+// The number in the six bytes from p on. Eight bytes are read at once: it asks that two more are there.
+pub fn u48_at(t: &[u8], p: usize) -> u64
+    requires { ⌜ p + 8 ≤ length (now t) ⌝ }
+    ensures { λ r. ⌜ r ≡ num (now (t .entry)) p 6 ⌝ }
+{
+    u64_at(t, p) / 65536
 }
 
 // The number in the 17 bytes from p on.

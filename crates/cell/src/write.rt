@@ -6,48 +6,11 @@ ghost use lib.ListN.{length};
 ghost use lib.Seq.{sets};
 ghost use Rattle.number.specs.Num.{be};
 ghost use Rattle.number.specs.Whole.{val};
-ghost use Rattle.cell.specs.Low.{le, swapped};
+ghost use Rattle.cell.specs.Low.{le};
+use crate::swap::swap16;
+use crate::swap::swap32;
+use crate::swap::swap64;
 use number::wide::Wide;
-
-fn swap16(v: u16) -> u16
-    ensures { λ r. ⌜ r ≡ swapped 2 v 0 ⌝ }
-{
-    let a = v % 256;
-    let v1 = v / 256;
-    a * 256 + v1 % 256
-}
-
-fn swap32(v: u32) -> u32
-    ensures { λ r. ⌜ r ≡ swapped 4 v 0 ⌝ }
-{
-    let a = v % 256;
-    let v1 = v / 256;
-    let b = a * 256 + v1 % 256;
-    let v2 = v1 / 256;
-    let c = b * 256 + v2 % 256;
-    let v3 = v2 / 256;
-    c * 256 + v3 % 256
-}
-
-fn swap64(v: u64) -> u64
-    ensures { λ r. ⌜ r ≡ swapped 8 v 0 ⌝ }
-{
-    let a = v % 256;
-    let v1 = v / 256;
-    let b = a * 256 + v1 % 256;
-    let v2 = v1 / 256;
-    let c = b * 256 + v2 % 256;
-    let v3 = v2 / 256;
-    let d = c * 256 + v3 % 256;
-    let v4 = v3 / 256;
-    let e = d * 256 + v4 % 256;
-    let v5 = v4 / 256;
-    let f = e * 256 + v5 % 256;
-    let v6 = v5 / 256;
-    let g = f * 256 + v6 % 256;
-    let v7 = v6 / 256;
-    g * 256 + v7 % 256
-}
 
 fn low16(buf: &mut [u8], at: usize, v: u16)
     requires { ⌜ at + 2 ≤ length (now buf) ⌝ }

@@ -17,6 +17,7 @@ use Rattle.model.specs.Tests.{bit, pick}
 use Rattle.model.specs.Trace.{inBounds, lastOf, rowOf}
 use Rattle.model.specs.Verdict.{rowBefore, before}
 use Rattle.model.proofs.OneCycle.{Ready, CycleAt, ready-next, withCycle, counts-cycle}
+use Rattle.compare.proofs.SameLaws.{cycle-stands}
 use Rattle.model.proofs.ReadBack.{is-row, row-used}
 use Rattle.model.proofs.VerdictLaws.{judged-meet}
 use Rattle.state.specs.Look.{lookBack}
@@ -64,7 +65,7 @@ module _ {r : ℕ → Cells} {n i k : ℕ} (ready : Ready r n i k) where
 
     module _ (c : Claim) (next : CycleNext r n i (suc k) (recalled r notes (c .context) k i) c) where
       there : CycleAt r i (suc k) c
-      there j h = next .stands j h ∙ ap (λ (s : State). rowOf (suc k) s c j) (recalls (c .context))
+      there j h = cycle-stands r i _ _ _ (next .stands) j h ∙ ap (λ (s : State). rowOf (suc k) s c j) (recalls (c .context))
 
       -- behind a cycle that stands the next may start
       pub ready-behind : Ready r n (i + suc (lastOf c)) (suc k)

@@ -2,6 +2,7 @@
 use Prim.Native.Nat.{ℕ, suc, _+_, _≤_}
 use mathlib.Core.Bool.{Bool, true}
 use mathlib.Core.List.{List}
+use mathlib.Core.Path.{_≡_}
 use lib.Dec.{eqb}
 use Rattle.model.specs.Columns.{Cells}
 use Rattle.model.specs.Constraints.{k9, k25, constraintsBy, firstFailed}
@@ -10,9 +11,9 @@ use Rattle.model.specs.Cycles.{Claim}
 use Rattle.model.specs.Promises.{ValidClaim}
 use Rattle.model.specs.State.{State, contextOf}
 use Rattle.model.specs.Trace.{lastOf}
-use Rattle.refill.specs.Stands.{CycleStands}
 use Rattle.model.specs.Tests.{pick}
 use Rattle.model.specs.Verdict.{rowBefore}
+use Rattle.compare.specs.Same.{cycleStands}
 use Rattle.recent.specs.Notes.{recalled}
 
 -- the answer to constraint 9 for row i: it is asked where a cycle starts, of the state that the notes on the rows before and else the look-up show.
@@ -28,4 +29,4 @@ firstAt r n nine i = firstFailed 1 (constraintsBy (rowBefore (rowBefore r) i) (r
 pub record CycleNext (r : ℕ → Cells) (n i stamp : ℕ) (s : State) (c : Claim) : Type 0 where
   pub valid : ValidClaim c
   pub fits : i + suc (lastOf c) ≤ n
-  pub stands : CycleStands r i stamp s c
+  pub stands : cycleStands r i stamp s c ≡ true

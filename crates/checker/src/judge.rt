@@ -19,18 +19,18 @@ use cell::read::u8_at;
 use cell::read::u24_at;
 use cell::read::u32_at;
 use claim::claim::Claim;
+use claim::claim::claim_shown;
+use compare::is_empty;
 use count::Counts;
 use count::count_cells;
 use count::is_start;
+use cycle::cycle_is;
 use cycle::rows_of;
 use model::OUT_ROWS;
 use model::ROW_BYTES;
 use recent::SLOTS;
 use recent::note;
 use recent::recall;
-use refill::claim_shown;
-use refill::is_cycle;
-use refill::is_empty;
 use row::cells::Row;
 use row::cells::empty_row;
 use row::place;
@@ -185,7 +185,7 @@ fn cycle_stands(t: &[u8], n: usize, notes: &[u32; SLOTS], i: usize, cycles: usiz
     }
     let own = c.context;
     let before = recall(t, notes, i, cycles, own);
-    is_cycle(t, i, cycles as u32 + 1, before, c)
+    cycle_is(t, i, cycles as u32 + 1, before, c)
 }
 
 // The verdict on n whole rows: cycle after cycle as the filler writes them, and where one does not stand so, row after row from there on.

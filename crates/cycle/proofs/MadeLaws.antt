@@ -1,15 +1,17 @@
--- What the rows of an in-bounds cycle are made from: that its cost and gas fit machine words, and whose it is.
-use Prim.Native.Nat.{ℕ, _^_, _≤_, _<_}
-use mathlib.Core.Bool.{true}
+-- What the rows of an in-bounds cycle are made from: that its cost and gas fit machine words, and its cells of three bytes fit them; and whose it is.
+use Prim.Native.Nat.{ℕ, _-_, _^_, _<_}
+use mathlib.Core.Bool.{Bool, true}
 use mathlib.Core.Path.{_≡_, refl, ap}
+use native.Mathlib.Nat.{div-le-self, lt-of-le-of-lt}
 use native.Mathlib.Omega.{arith}
-use Rattle.number.specs.Cells.{Fit}
-use Rattle.model.specs.Columns.{columns, cellsIn, widths}
+use Rattle.number.specs.Sums.{prefixAt}
 use Rattle.model.specs.Constraints.{inLast}
-use Rattle.model.specs.Promises.{ValidClaim}
-use Rattle.model.specs.Trace.{inBounds, lastOf, rowOf}
+use Rattle.model.specs.Cycles as cycles
 use Rattle.model.specs.State as model
-use Rattle.model.proofs.FitLaws.{paid-lt, sound-reached, row-of-fits}
+use Rattle.model.specs.Trace.{inBounds, top, reach, inRow}
+use Rattle.model.proofs.FitLaws.{paid-lt, apart-lt, above-lt, last-word-lt, sound-reached}
+use Rattle.model.proofs.StateLaws.{top-lt}
+use Rattle.compare.specs.Narrow.{Narrow}
 use Rattle.state.specs.Plain.{state}
 use Rattle.state.specs.declared.State.{State}
 use Rattle.claim.specs.Told.{plainClaim}
@@ -37,9 +39,28 @@ module _ {k : ℕ} {s : State} {c : Claim} {m : Made} (made : MadeOf k s c m) wh
     within = rw (made .claim) (made .within);
   }
 
--- each cell of row i of an in-bounds cycle fits its column
-pub within-fits : (stamp : ℕ) (s : State) (c : Claim) (i : ℕ) → stamp < 256 ^ 4 → model.Sound (state s) → ValidClaim (plainClaim c)
-    → inBounds (plainClaim c) ≡ true → i ≤ inLast → Fit widths (cellsIn columns (withinRow stamp s c i))
-unfolding rowOf lastOf
-within-fits stamp s c i few sound valid e l =
-    rw e at (row-of-fits stamp (state s) (plainClaim c) i few sound valid (rw e l))
+-- what the digits of a number up to row i spell is no more than it
+prefix-lt : {v n : ℕ} (i : ℕ) → v < n → prefixAt inLast v i < n
+unfolding prefixAt
+prefix-lt {v} i h = lt-of-le-of-lt (div-le-self v (256 ^ (inLast - i))) h
+
+-- the cells of three bytes fit them, whatever the two comparisons answer, if the state that it leaves is sound
+in-narrow : (atLeast grown : Bool) (stamp : ℕ) (s : model.State) (c : cycles.Claim) (i : ℕ) → inBounds c ≡ true → model.Sound s
+    → model.Sound (reach grown (top c) s) → Narrow (inRow atLeast grown stamp s c i)
+unfolding inRow
+in-narrow atLeast grown stamp s c i e k n =
+    let t = top-lt c e in
+    record {
+      memn = n .mem;
+      dacc = prefix-lt i (apart-lt atLeast (omega arith) (omega arith));
+      endmax = t;
+      eacc = prefix-lt i (above-lt grown t (k .mem));
+      q1 = last-word-lt grown t;
+      q1acc = prefix-lt i (last-word-lt grown t);
+      q2acc = prefix-lt i (omega arith);
+    }
+
+-- those of a row that is made do
+pub within-narrow : {k : ℕ} {s : State} {c : Claim} {m : Made} (i : ℕ) → MadeOf k s c m → Narrow (withinRow k s c i)
+within-narrow {s = s} {c = c} i made =
+    in-narrow _ _ _ (state s) (plainClaim c) i (made .within) (made .sound) (sound-reached (state s) (plainClaim c) (made .within) (made .sound))

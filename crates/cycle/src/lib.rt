@@ -1,6 +1,5 @@
-// One cycle, written to a lent buffer: the rows of a claim at a stamp and at the state of its context. Only crates of this repository call these
-// functions.
-ghost use mathlib.Core.Bool.{true};
+// One cycle, written to a lent buffer or compared with a trace: the rows of a claim at a stamp and at the state of its context. Only crates of this repository
+// call these functions.
 ghost use mathlib.Core.Path.{_≡_};
 ghost use Prim.Native.Nat.{suc, _+_, _*_, _≤_};
 ghost use lib.ListN.{length};
@@ -8,10 +7,9 @@ ghost use lib.Seq.{sets};
 ghost use Rattle.model.specs.Columns.{rowBytes, rowAt, bytesOf};
 ghost use Rattle.model.specs.State.{Sound};
 ghost use Rattle.model.specs.Trace.{inBounds, lastOf, cycleOf};
+ghost use Rattle.compare.specs.Same.{cycleStands};
 ghost use Rattle.state.specs.Plain.{state};
 ghost use Rattle.claim.specs.Told.{plainClaim};
-ghost use Rattle.model.specs.Promises.{ValidClaim};
-ghost use Rattle.alike.specs.Stands.{CycleStands};
 use beyond::beyond_is;
 use beyond::put_beyond;
 use claim::claim::Claim;
@@ -50,12 +48,11 @@ pub fn put_cycle(buf: &mut [u8], row: usize, stamp: u32, s: State, c: Claim)
     }
 }
 
-// Whether the cycle of the claim stands from this row on, with this stamp, where its context had the state s.
+// Whether the cycle of the claim stands in a trace from this row on, with this stamp, where its context had the state s.
 pub fn cycle_is(t: &[u8], row: usize, stamp: u32, s: State, c: Claim) -> bool
     requires { ⌜ (row + suc (lastOf (plainClaim c))) * rowBytes ≤ length (now t) ⌝ }
     requires { ⌜ Sound (state s) ⌝ }
-    requires { ⌜ ValidClaim (plainClaim c) ⌝ }
-    ensures { λ r. ⌜ (r ≡ true → CycleStands (rowAt (now (t .entry))) row stamp (state s) (plainClaim c)) ⌝ }
+    ensures { λ r. ⌜ r ≡ cycleStands (rowAt (now (t .entry))) row stamp (state s) (plainClaim c) ⌝ }
 {
     if is_within(c) {
         within::within_is(t, row, stamp, s, c)

@@ -9,21 +9,22 @@ ghost use Rattle.model.specs.Constraints.{inLast};
 ghost use Rattle.model.specs.State.{Sound};
 ghost use Rattle.model.specs.Trace.{inBounds, cycleOf};
 ghost use Rattle.row.specs.Plain.{HeadOf, BodyOf, TailOf, plain};
+ghost use Rattle.compare.specs.Same.{sameCells, cycleStands};
 ghost use Rattle.state.specs.Plain.{state};
 ghost use Rattle.claim.specs.Told.{plainClaim};
-ghost use Rattle.model.specs.Promises.{ValidClaim};
-ghost use Rattle.alike.specs.Stands.{CycleStands};
 ghost use Rattle.cycle.specs.Made.{MadeOf, withinRow};
 use crate::digits::digit;
 use crate::digits::in_rows;
 use crate::digits::prefix;
-use alike::row_is;
 use claim::claim::Claim;
+use compare::from_comp_is;
+use compare::up_to_gas_is;
 use growth::Ends;
 use growth::Growth;
 use growth::ends_of;
 use growth::growth_of;
 use model::IN_LAST;
+use model::ROW_BYTES;
 use number::FIRST_OF_FOUR;
 use number::wide::small;
 use row::cells::Body;
@@ -150,18 +151,28 @@ pub(crate) fn put_within(buf: &mut [u8], row: usize, stamp: u32, s: State, c: Cl
     }
 }
 
-// Whether the cycle stands from this row on.
+// Whether row k of a trace is row i of the cycle.
+fn in_is(t: &[u8], k: usize, m: Made, i: u8) -> bool
+    requires { ⌜ (k + 1) * rowBytes ≤ length (now t) ⌝ }
+    requires { ⌜ MadeOf (m .stamp) (m .before) (m .claim) m ⌝ }
+    ensures { λ r. ⌜ r ≡ sameCells (rowAt (now (t .entry)) k) (withinRow (m .stamp) (m .before) (m .claim) i) ⌝ }
+{
+    let p = k * ROW_BYTES;
+    let x = row_of(m, i);
+    up_to_gas_is(t, p, x) & from_comp_is(t, p, x)
+}
+
+// Whether the cycle stands in a trace from this row on.
 pub(crate) fn within_is(t: &[u8], row: usize, stamp: u32, s: State, c: Claim) -> bool
     requires { ⌜ (row + suc inLast) * rowBytes ≤ length (now t) ⌝ }
     requires { ⌜ Sound (state s) ⌝ }
     requires { ⌜ inBounds (plainClaim c) ≡ true ⌝ }
-    requires { ⌜ ValidClaim (plainClaim c) ⌝ }
-    ensures { λ r. ⌜ (r ≡ true → CycleStands (rowAt (now (t .entry))) row stamp (state s) (plainClaim c)) ⌝ }
+    ensures { λ r. ⌜ r ≡ cycleStands (rowAt (now (t .entry))) row stamp (state s) (plainClaim c) ⌝ }
 {
     let m = make(stamp, s, c);
     let mut i: u8 = 0;
     while i <= IN_LAST {
-        if !row_is(t, row + i as usize, row_of(m, i)) {
+        if !in_is(t, row + i as usize, m, i) {
             return false;
         }
         i += 1;

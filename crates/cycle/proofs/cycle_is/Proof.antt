@@ -7,29 +7,20 @@ use Rattle.cycle.proofs.CycleLaws.{last-of}
 use Rattle.cycle.proofs.cycle_is.Statement.{statement}
 use Rattle.cycle.proofs.cycle_is.Tie as tie
 
-is-within-requires : tie.Need-is-within-requires
-is-within-requires c κs = search needs
-
 within-is-requires : tie.Need-within-is-requires
 within-is-requires c κs =
     let tested = c .before in
     let start = tested .before .before in
     let within = sym (tested .is-within .ensures) ∙ c .if1 .taken in
-    (rw (last-of (plainClaim (start .args .c)) true within) at (start .pre .0), (start .pre .1 .0, (within, start .pre .1 .1)))
+    (rw (last-of (plainClaim (start .args .c)) true within) at (start .pre .0), (start .pre .1, within))
 
 beyond-is-requires : tie.Need-beyond-is-requires
 beyond-is-requires c κs =
     let tested = c .before in
     let start = tested .before .before in
     let beyond = sym (tested .is-within .ensures) ∙ c .if1 .left in
-    (rw (last-of (plainClaim (start .args .c)) false beyond) at (start .pre .0), (start .pre .1 .0, beyond))
-
-returns : tie.Need-returns
-returns c = search needs
-
-returns-2 : tie.Need-returns-2
-returns-2 c = search needs
+    (rw (last-of (plainClaim (start .args .c)) false beyond) at (start .pre .0), (start .pre .1, beyond))
 
 pub cycle-is-spec : {M : Type 1} → statement M
 cycle-is-spec =
-    tie.close (tie.spec is-within-requires within-is-requires beyond-is-requires returns returns-2)
+    tie.close (tie.spec (λ c κs. search needs) within-is-requires beyond-is-requires (λ c. search needs) (λ c. search needs))

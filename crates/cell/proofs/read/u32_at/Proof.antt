@@ -1,49 +1,20 @@
--- `cell::read::u32_at` meets its contract: four bytes are joined as `num` joins them.
+-- `cell::read::u32_at` meets its contract: the bytes of a little-endian number the other way round are the number that they spell (`swap-low`).
+use Prim.Native.Nat.{ℕ}
+use mathlib.Core.Path.{_∙_, ap}
 use native.Mathlib.Omega.{arith}
-use native.Mathlib.Nat.{add-zero}
 use borrow.Author.Needs.{needs}
-use Rattle.number.specs.Num.{num}
+use Rattle.cell.specs.Low.{swapped}
+use Rattle.cell.proofs.ReadLaws.{swap-low}
 use Rattle.cell.proofs.read.u32_at.Statement.{statement}
 use Rattle.cell.proofs.read.u32_at.Tie as tie
 
-shared-slice-read-four : tie.Need-shared-slice-read-four
-shared-slice-read-four c = search needs
-
-add-four : tie.Need-add-four
-add-four c = search needs
-
-shared-slice-read-four-2 : tie.Need-shared-slice-read-four-2
-shared-slice-read-four-2 c = search needs
-
-add-four-2 : tie.Need-add-four-2
-add-four-2 c = search needs
-
-shared-slice-read-four-3 : tie.Need-shared-slice-read-four-3
-shared-slice-read-four-3 c = search needs
-
-add-four-3 : tie.Need-add-four-3
-add-four-3 c = search needs
-
-shared-slice-read-four-4 : tie.Need-shared-slice-read-four-4
-shared-slice-read-four-4 c = search needs
-
-four-requires : tie.Need-four-requires
-four-requires c κs = search needs
-
 returns : tie.Need-returns
-unfolding num
-returns c = simp add-zero (omega arith)
+returns c =
+    let low = c .before in
+    let known = low .before in
+    let a = known .before .args in
+    c .swap32 .ensures ∙ ap (λ (v : ℕ). swapped 4 v 0) (low .low32-at .ensures)
+    ∙ swap-low (a .t .now) (a .p) 4 (λ i h. omega (arith, known .shared-slice-known .given i)) (omega arith)
 
 pub u32-at-spec : {M : Type 1} → statement M
-u32-at-spec =
-    tie.close
-    (tie.spec
-    shared-slice-read-four
-    add-four
-    shared-slice-read-four-2
-    add-four-2
-    shared-slice-read-four-3
-    add-four-3
-    shared-slice-read-four-4
-    four-requires
-    returns)
+u32-at-spec = tie.close (tie.spec (λ c κs. search needs) (λ c κs. search needs) returns)

@@ -1,45 +1,20 @@
--- `cell::read::u64_at` meets its contract: `num-add` joins the two halves of four bytes.
+-- `cell::read::u64_at` meets its contract: the bytes of a little-endian number the other way round are the number that they spell (`swap-low`).
+use Prim.Native.Nat.{ℕ}
+use mathlib.Core.Path.{_∙_, ap}
 use native.Mathlib.Omega.{arith}
 use borrow.Author.Needs.{needs}
-use Rattle.number.proofs.NumLaws.{num-add}
+use Rattle.cell.specs.Low.{swapped}
+use Rattle.cell.proofs.ReadLaws.{swap-low}
 use Rattle.cell.proofs.read.u64_at.Statement.{statement}
 use Rattle.cell.proofs.read.u64_at.Tie as tie
 
-u32-at-requires : tie.Need-u32-at-requires
-u32-at-requires c κs = search needs
-
-as-u64-requires : tie.Need-as-u64-requires
-as-u64-requires c κs = search needs
-
-mul-result : tie.Need-mul-result
-mul-result c = search needs
-
-add-u32-at : tie.Need-add-u32-at
-add-u32-at c = search needs
-
-u32-at-requires-2 : tie.Need-u32-at-requires-2
-u32-at-requires-2 c κs = search needs
-
-as-u64-requires-2 : tie.Need-as-u64-requires-2
-as-u64-requires-2 c κs = search needs
-
-add-result : tie.Need-add-result
-add-result c = search needs
-
 returns : tie.Need-returns
 returns c =
-    let a = c .before .before .before .before .before .args in
-    omega (arith, num-add (a .t .now) (a .p) 4 4)
+    let low = c .before in
+    let known = low .before in
+    let a = known .before .args in
+    c .swap64 .ensures ∙ ap (λ (v : ℕ). swapped 8 v 0) (low .low64-at .ensures)
+    ∙ swap-low (a .t .now) (a .p) 8 (λ i h. omega (arith, known .shared-slice-known .given i)) (omega arith)
 
 pub u64-at-spec : {M : Type 1} → statement M
-u64-at-spec =
-    tie.close
-    (tie.spec
-    u32-at-requires
-    as-u64-requires
-    mul-result
-    add-u32-at
-    u32-at-requires-2
-    as-u64-requires-2
-    add-result
-    returns)
+u64-at-spec = tie.close (tie.spec (λ c κs. search needs) (λ c κs. search needs) returns)

@@ -5,7 +5,6 @@ use Rattle.cell.proofs.write.put_u16.Tie as tie
 use Rattle.cell.proofs.write.put_u16.Reads as reads
 use Rattle.cell.proofs.write.put_u16.Lts as lts
 use Rattle.cell.proofs.write.low16.Reads as low16-reads
-use Rattle.cell.proofs.write.swap16.Reads as swap16-reads
 
 -- src/lib.rt:70:20
 swap16-requires : tie.Need-swap16-requires

@@ -5,7 +5,6 @@ use Rattle.cell.proofs.write.put_u32.Tie as tie
 use Rattle.cell.proofs.write.put_u32.Reads as reads
 use Rattle.cell.proofs.write.put_u32.Lts as lts
 use Rattle.cell.proofs.write.low32.Reads as low32-reads
-use Rattle.cell.proofs.write.swap32.Reads as swap32-reads
 
 -- src/lib.rt:70:20
 swap32-requires : tie.Need-swap32-requires

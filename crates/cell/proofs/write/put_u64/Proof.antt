@@ -5,7 +5,6 @@ use Rattle.cell.proofs.write.put_u64.Tie as tie
 use Rattle.cell.proofs.write.put_u64.Reads as reads
 use Rattle.cell.proofs.write.put_u64.Lts as lts
 use Rattle.cell.proofs.write.low64.Reads as low64-reads
-use Rattle.cell.proofs.write.swap64.Reads as swap64-reads
 
 -- src/lib.rt:78:20
 swap64-requires : tie.Need-swap64-requires

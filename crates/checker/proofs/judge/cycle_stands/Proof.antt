@@ -17,7 +17,6 @@ use Rattle.checker.proofs.judge.cycle_stands.Reads as reads
 use Rattle.checker.proofs.judge.cycle_stands.Lts as lts
 use Rattle.cycle.proofs.rows_of.Reads as rows-of-reads
 use Rattle.recent.proofs.recall.Reads as recall-reads
-use Rattle.refill.proofs.is_cycle.Reads as is-cycle-reads
 
 -- src/judge.rt:175:9
 returns : tie.Need-returns
@@ -40,12 +39,12 @@ recall-requires : tie.Need-recall-requires
 recall-requires c κs = search needs
 
 -- src/judge.rt:182:20
-cast-is-cycle : tie.Need-cast-is-cycle
-cast-is-cycle c = search needs
+cast-cycle-is : tie.Need-cast-cycle-is
+cast-cycle-is c = search needs
 
 -- src/judge.rt:182:20
-add-is-cycle : tie.Need-add-is-cycle
-add-is-cycle c = search needs
+add-cycle-is : tie.Need-add-cycle-is
+add-cycle-is c = search needs
 
 -- src/judge.rt:182:5
 -- the state that the call answers
@@ -66,12 +65,12 @@ valid c =
       end2 = val-lt (d .end2) (omega (arith, start .good)) (omega (arith, start .good)) (omega (arith, start .good));
     }
 
-is-cycle-requires : tie.Need-is-cycle-requires
-is-cycle-requires c κs =
+cycle-is-requires : tie.Need-cycle-is-requires
+cycle-is-requires c κs =
     let found = c in
     let start = found .before .before .before .before .before .before .before in
     let rows = found .before .before .before .rows-of .ensures in
-    (omega (arith, rows), (rw (answers found) (start .pre .1 .1 .1 .1), valid found))
+    (omega (arith, rows), rw (answers found) (start .pre .1 .1 .1 .1))
 
 -- src/judge.rt:166:1
 returns-3 : tie.Need-returns-3
@@ -79,7 +78,7 @@ returns-3 c h =
     let found = c .before in
     let start = found .before .before .before .before .before .before .before in
     let rows = found .before .before .before .rows-of .ensures in
-    record { valid = valid found; fits = omega (arith, rows); stands = rw (← answers found, ← add-one (start .args .cycles)) (c .is-cycle .ensures h) }
+    record { valid = valid found; fits = omega (arith, rows); stands = rw (← answers found, ← add-one (start .args .cycles)) (sym (c .cycle-is .ensures) ∙ h) }
 
 pub cycle-stands-spec : {M : Type 1} → statement M
 cycle-stands-spec =
@@ -90,7 +89,7 @@ cycle-stands-spec =
     rows-of-requires
     returns-2
     recall-requires
-    cast-is-cycle
-    add-is-cycle
-    is-cycle-requires
+    cast-cycle-is
+    add-cycle-is
+    cycle-is-requires
     returns-3)

@@ -1,16 +1,16 @@
 -- `checker::judge::empty_rows`: before row i the rows below it are empty.
 use Prim.Native.Nat.{ℕ, _-_, _≤_, _<_}
-use mathlib.Core.Path.{_≡_}
+use mathlib.Core.Path.{_≡_, sym, _∙_}
 use native.Mathlib.Omega.{arith}
 use borrow.Author.Count.{below-more}
 use borrow.Author.Needs.{needs}
 use borrow.Author.Tests.{not-false}
 use Rattle.model.specs.Columns.{emptyRow, rowAt}
+use Rattle.compare.proofs.ZeroLaws.{zeros-empty}
 use Rattle.checker.proofs.judge.empty_rows.Statement.{statement}
 use Rattle.checker.proofs.judge.empty_rows.Tie as tie
 use Rattle.checker.proofs.judge.empty_rows.Reads as reads
 use Rattle.checker.proofs.judge.empty_rows.Lts as lts
-use Rattle.refill.proofs.is_empty.Reads as is-empty-reads
 
 abbrev Inv-loop : tie.InvT-loop
 Inv-loop t n i₀ i = (i ≤ n) × ((j : ℕ) → j < i → rowAt t j ≡ emptyRow)
@@ -42,7 +42,7 @@ loop-less c = search needs
 loop-again : tie.Need-loop-again Inv-loop μ-loop
 loop-again c =
     let l = c .before .before .before .loop in
-    (search needs, below-more _ _ (l .inv .1) (c .before .is-empty .ensures (not-false (c .before .is-empty .result) (c .if1 .left))))
+    (search needs, below-more _ _ (l .inv .1) (zeros-empty _ (sym (c .before .is-empty .ensures) ∙ not-false (c .before .is-empty .result) (c .if1 .left))))
 
 -- src/judge.rt:150:1
 returns-2 : tie.Need-returns-2 Inv-loop μ-loop

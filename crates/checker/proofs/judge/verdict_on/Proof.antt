@@ -31,7 +31,6 @@ use Rattle.checker.proofs.judge.empty_rows.Reads as empty-rows-reads
 use Rattle.checker.proofs.judge.verdict_from.Reads as verdict-from-reads
 use Rattle.cycle.proofs.rows_of.Reads as rows-of-reads
 use Rattle.recent.proofs.note.Reads as note-reads
-use Rattle.refill.proofs.claim_shown.Reads as claim-shown-reads
 use Rattle.words.proofs.bit.Reads as bit-reads
 
 abbrev Inv-loop : tie.InvT-loop

@@ -1,3 +1,0 @@
--- The laws of `alike`.
-pub mod JoinedLaws
-pub mod NarrowLaws

@@ -1,3 +1,0 @@
--- The definitions of `alike`.
-pub mod Narrow
-pub mod Stands

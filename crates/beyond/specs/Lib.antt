@@ -1,2 +1,0 @@
--- The definitions of `beyond`.
-pub mod Rest

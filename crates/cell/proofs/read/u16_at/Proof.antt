@@ -1,0 +1,20 @@
+-- `cell::read::u16_at` meets its contract: the bytes of a little-endian number the other way round are the number that they spell (`swap-low`).
+use Prim.Native.Nat.{ℕ}
+use mathlib.Core.Path.{_∙_, ap}
+use native.Mathlib.Omega.{arith}
+use borrow.Author.Needs.{needs}
+use Rattle.cell.specs.Low.{swapped}
+use Rattle.cell.proofs.ReadLaws.{swap-low}
+use Rattle.cell.proofs.read.u16_at.Statement.{statement}
+use Rattle.cell.proofs.read.u16_at.Tie as tie
+
+returns : tie.Need-returns
+returns c =
+    let low = c .before in
+    let known = low .before in
+    let a = known .before .args in
+    c .swap16 .ensures ∙ ap (λ (v : ℕ). swapped 2 v 0) (low .low16-at .ensures)
+    ∙ swap-low (a .t .now) (a .p) 2 (λ i h. omega (arith, known .shared-slice-known .given i)) (omega arith)
+
+pub u16-at-spec : {M : Type 1} → statement M
+u16-at-spec = tie.close (tie.spec (λ c κs. search needs) (λ c κs. search needs) returns)

@@ -1,0 +1,3 @@
+-- The definitions of `compare`.
+pub mod Narrow
+pub mod Same

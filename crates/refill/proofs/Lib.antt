@@ -1,2 +1,0 @@
--- The laws of `refill`.
-pub mod StandLaws

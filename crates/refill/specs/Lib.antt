@@ -1,2 +1,0 @@
--- The definitions of `refill`.
-pub mod Stands

@@ -1,2 +1,0 @@
--- The definitions of `same`.
-pub mod Same
