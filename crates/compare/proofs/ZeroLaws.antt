@@ -14,8 +14,9 @@ use Rattle.number.specs.Cells.{total}
 use Rattle.number.specs.Num.{num}
 use Rattle.number.proofs.NumLaws.{num-add}
 use Rattle.number.proofs.TestLaws.{same-test, both, both-intro}
-use Rattle.model.specs.Columns.{Cells, columns, cellsIn, widths, rowBytes, rowAt}
+use Rattle.model.specs.Columns.{Cells, columns, cellsIn, widths, rowBytes, ofList, emptyRow, rowAt}
 use Rattle.model.specs.Tests.{zeros}
+use Rattle.model.proofs.TestFacts.{zeros-are}
 use Rattle.row.specs.Plain.{cellsFrom, from}
 use Rattle.row.proofs.PlaceLaws.{from-row}
 
@@ -57,3 +58,7 @@ pub row-zero : (l : List ℕ) (i : ℕ) → eqb (num l (i * rowBytes) rowBytes) 
 row-zero l i =
     ap (λ (q : ℕ). eqb (num l q rowBytes) 0) (sym (add-zero (i * rowBytes))) ∙ cells-zero widths l (i * rowBytes) 0
     ∙ ap (λ (x : Cells). zeros (cellsIn columns x)) (from-row l i)
+
+-- a row whose every cell is 0 is the empty row
+pub zeros-empty : (x : Cells) → zeros (cellsIn columns x) ≡ true → x ≡ emptyRow
+zeros-empty x h = ap ofList (zeros-are (cellsIn columns x) h)

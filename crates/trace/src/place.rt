@@ -5,12 +5,11 @@ ghost use Rattle.trace.specs.Told.{refusalOf, toldPlace, toldClaimed};
 use crate::admit::Admitted;
 use crate::admit::admit;
 use claim::claim::Claim;
+use claim::claim::claim_shown;
 use part::is_among;
 use part::row_after;
 use part::rows_from;
 use refusal::Refusal;
-use row::read::read_row;
-use state::context_of;
 use state::look::cycle_rows_at;
 
 // Where an instruction stands: document 01's numbers for each case are `partNumbers` of specs/Told.antt.
@@ -68,17 +67,7 @@ pub fn claim_at(t: &[u8], k: u64) -> Claimed
 {
     let place = place_of(t, k);
     match place {
-        Place::At { first, rows: _ } => {
-            let x = read_row(t, first);
-            let context = context_of(x);
-            let end1 = x.head.end1;
-            let end2 = x.head.end2;
-            Claimed::Is(Claim {
-                context,
-                end1,
-                end2,
-            })
-        }
+        Place::At { first, rows: _ } => Claimed::Is(claim_shown(t, first)),
         Place::Refused(why) => Claimed::Refused(why),
     }
 }

@@ -1,4 +1,4 @@
--- The first reading of a list, line by line: its lines and the rows of their cycles are counted, up to its end or its first refusal.
+-- A list that is read line by line: the rows of its cycles are counted, up to its end or its first refusal.
 use Prim.Native.Nat.{ℕ, suc, _+_, _*_, _≤_, _<_}
 use mathlib.Core.Bool.{Bool, true, false}
 use mathlib.Core.List.{List, [], _∷_, _++_, map, map-append}
@@ -21,28 +21,27 @@ use Rattle.list.specs.List as list
 use Rattle.list.specs.List.{nextLine, readList}
 use Rattle.list.specs.Told.{toldNext}
 use Rattle.list.specs.declared.Next.the-variants as next
-use Rattle.lines.specs.Lines.{rowsOfClaims}
+use Rattle.lines.specs.Lines.{rowsOfClaims, toldMeasured}
+use Rattle.lines.specs.declared.Measured.the-variants.{Rows, Refused}
 use Rattle.lines.proofs.ReadLaws.{Reached, reached-start, reached-end, reached-refused, reached-next, claim-told, rows-snoc}
-use Rattle.filler.specs.Measured.{toldMeasured}
-use Rattle.filler.specs.declared.measure.Measured.the-variants.{Lines, Refused}
 
 -- ---- what the code holds of a line
 
 -- the list ends
-told-end : (l : ℕ) (x : list.Next) → toldNext l x ≡ next.End → x ≡ list.end
+pub told-end : (l : ℕ) (x : list.Next) → toldNext l x ≡ next.End → x ≡ list.end
 told-end l list.end e = refl
 told-end l (list.one i q) e = clash cc
 told-end l (list.refused n q) e = clash cc
 
 -- an instruction, and the place after its line
-told-one : (l : ℕ) (x : list.Next) {i : line.Instruction} {q : ℕ} → toldNext l x ≡ next.One i q
+pub told-one : (l : ℕ) (x : list.Next) {i : line.Instruction} {q : ℕ} → toldNext l x ≡ next.One i q
     → (j : Instruction) × (x ≡ list.one j q) × (i ≡ toldInstruction j)
 told-one l list.end e = clash cc
 told-one l (list.one j r) e = (j, cc, cc)
 told-one l (list.refused n r) e = clash cc
 
 -- a line that is refused, by the number of the refusal
-told-refused : (l : ℕ) (x : list.Next) {w : Refusal} {q : ℕ} → toldNext l x ≡ next.Refused w q
+pub told-refused : (l : ℕ) (x : list.Next) {w : Refusal} {q : ℕ} → toldNext l x ≡ next.Refused w q
     → (n : ℕ) × (x ≡ list.refused n q) × (w ≡ inLine n l)
 told-refused l list.end e = clash cc
 told-refused l (list.one i r) e = clash cc
@@ -78,11 +77,9 @@ unfolding cyclesOf
 counted-start t = record { done = []; reached = reached-start t; rows = refl; few = omega arith }
 
 module _ {t : List ℕ} {at lines n : ℕ} (k : Counted t at lines n) where
-  -- at the end of the list its lines and their rows are all counted
-  pub counted-end : (l : ℕ) → toldNext l (nextLine t at) ≡ next.End → Lines lines n ≡ toldMeasured (readList 1 t)
-  counted-end l e =
-      let r = k .reached in
-      rw (reached-end r (told-end l _ e), ← r .count, ← k .rows)
+  -- at the end of the list the rows of all its lines are counted
+  pub counted-end : (l : ℕ) → toldNext l (nextLine t at) ≡ next.End → Rows n ≡ toldMeasured (readList 1 t)
+  counted-end l e = rw (reached-end (k .reached) (told-end l _ e), ← k .rows)
 
   -- the first line that is refused refuses the list, with its number
   pub counted-refused : {w : Refusal} {q : ℕ} → toldNext (lines + 1) (nextLine t at) ≡ next.Refused w q → Refused w ≡ toldMeasured (readList 1 t)

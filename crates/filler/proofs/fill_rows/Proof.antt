@@ -1,4 +1,4 @@
--- `filler::fill_lines` meets its contract: a trace with too many rows is refused (`too-many`), then one that the buffer is too short for
+-- `filler::fill_rows` meets its contract: a trace with too many rows is refused (`too-many`), then one that the buffer is too short for
 -- (`too-short`); any other is stored, its empty rows first (`empty-stored`, `filled-buffer`).
 use Prim.Native.Nat.{_+_}
 use mathlib.Core.List.{List}
@@ -12,8 +12,8 @@ use Rattle.model.proofs.JoinLaws.{length-trace}
 use Rattle.lines.specs.Lines.{listClaims}
 use Rattle.filler.specs.declared.Filled.the-variants.{Rows, Refused}
 use Rattle.filler.proofs.FillLaws.{too-many, too-short, there-is-room, empty-stored, filled-buffer}
-use Rattle.filler.proofs.fill_lines.Statement.{statement}
-use Rattle.filler.proofs.fill_lines.Tie as tie
+use Rattle.filler.proofs.fill_rows.Statement.{statement}
+use Rattle.filler.proofs.fill_rows.Tie as tie
 
 rows-left-requires : tie.Need-rows-left-requires
 rows-left-requires c κs = search needs
@@ -25,7 +25,7 @@ returns : tie.Need-returns
 returns c =
     let start = c .before .before .before .before .before in
     let a = start .args in
-    let e = too-many (length (a .buf .now)) (a .empty) (a .rows) (listClaims (a .list .now)) (start .pre .1 .0) (start .pre .1 .1) (search needs) in
+    let e = too-many (length (a .buf .now)) (a .empty) (a .rows) (listClaims (a .list .now)) (start .pre .1 .1 .0) (start .pre .1 .1 .1) (search needs) in
     (rw e (ap Refused (c .fill-too-long .ensures)), rw e)
 
 add-all : tie.Need-add-all
@@ -41,18 +41,30 @@ returns-2 : tie.Need-returns-2
 returns-2 c =
     let start = c .before .before .before .before .before .before in
     let a = start .args in
-    let e = too-short (length (a .buf .now)) (a .empty) (a .rows) (listClaims (a .list .now)) (start .pre .1 .0) (start .pre .1 .1) (search needs) (search needs) in
+    let e = too-short (length (a .buf .now)) (a .empty) (a .rows) (listClaims (a .list .now)) (start .pre .1 .1 .0) (start .pre .1 .1 .1) (search needs) (search needs) in
     (rw e (ap Refused (c .buffer-short .ensures)), rw e)
 
 put-empty-requires : tie.Need-put-empty-requires
 put-empty-requires c κs = omega arith
 
-put-lines-requires : tie.Need-put-lines-requires
-put-lines-requires c κs =
+read-lines-requires : tie.Need-read-lines-requires
+read-lines-requires c κs =
     let first = c .before .before .before in
     let start = first .before .before .before .before .before .before .before in
     let a = start .args in
-    (start .pre .0, (start .pre .1 .1, (empty-stored (a .buf .now) (a .empty) (omega arith) (first .put-empty .ensures), (omega arith, omega arith))))
+    let rows = start .pre .1 .1 .0 in (
+      start .pre .0,
+      (
+        omega (arith, rows),
+        λ e. record {
+          lists = start .pre .1 .0;
+          some = start .pre .1 .1 .1;
+          empty = empty-stored (a .buf .now) (a .empty) (omega arith) (first .put-empty .ensures);
+          few = omega (arith, rows);
+          room = omega (arith, rows);
+        },
+      ),
+    )
 
 same-length : tie.Need-same-length
 same-length c = search needs
@@ -64,12 +76,12 @@ returns-3 c =
     let start = first .before .before .before .before .before .before .before in
     let a = start .args in
     let cs : List Claim = listClaims (a .list .now) in
-    let e = there-is-room (length (a .buf .now)) (a .empty) (a .rows) cs (start .pre .1 .0) (start .pre .1 .1) (search needs) (search needs) in
-    let rows : length (trace (a .empty) cs) ≡ a .empty + a .rows = rw (start .pre .1 .0) (length-trace (a .empty) cs) in
-    (rw e (ap Rows (sym rows)), rw e (filled-buffer (a .buf .now) (a .empty) cs (omega arith) (first .put-empty .ensures) (stored .put-lines .ensures)))
+    let e = there-is-room (length (a .buf .now)) (a .empty) (a .rows) cs (start .pre .1 .1 .0) (start .pre .1 .1 .1) (search needs) (search needs) in
+    let rows : length (trace (a .empty) cs) ≡ a .empty + a .rows = rw (start .pre .1 .1 .0) (length-trace (a .empty) cs) in
+    (rw e (ap Rows (sym rows)), rw e (filled-buffer (a .buf .now) (a .empty) cs (omega arith) (first .put-empty .ensures) (stored .read-lines .ensures .1)))
 
-pub fill-lines-spec : {M : Type 1} → statement M
-fill-lines-spec =
+pub fill-rows-spec : {M : Type 1} → statement M
+fill-rows-spec =
     tie.close
     (tie.spec
     rows-left-requires
@@ -80,6 +92,6 @@ fill-lines-spec =
     buffer-short-requires
     returns-2
     put-empty-requires
-    put-lines-requires
+    read-lines-requires
     same-length
     returns-3)
