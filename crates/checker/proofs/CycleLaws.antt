@@ -17,7 +17,7 @@ use Rattle.model.specs.Constraints.{inUse, outLast}
 use Rattle.model.specs.Cycles.{Claim, Counts, starts, counts}
 use Rattle.model.specs.Promises.{ValidClaim}
 use Rattle.model.specs.State.{Context, State, Sound}
-use Rattle.model.specs.Tests.{bit, pick, zeros}
+use Rattle.model.specs.Tests.{pick, zeros}
 use Rattle.model.specs.Trace.{inBounds, lastOf, rowOf}
 use Rattle.model.specs.Verdict.{rowBefore, before}
 use Rattle.model.proofs.OneCycle.{Ready, CycleAt, ready-first, ready-next, counts-cycle}
@@ -132,11 +132,11 @@ module _ (r : ℕ → Cells) (n : ℕ) (notes : List ℕ) (span : Span) (i cycle
       by true u = refl
       by false u = refl
 
-  -- else the comparison decides
-  pub compared : c .context .cn ≢ 0 → i + suc (lastOf c) ≤ n → {t : Bool}
-      → t ≡ cycleStands r i (suc cycles) (recalled r notes span (c .context) cycles i) c → t ≡ cycleNext r n notes span i cycles c
+  -- else the comparison decides, at the next stamp and the recalled state
+  pub compared : {t : Bool} {stamp : ℕ} {s : State} → c .context .cn ≢ 0 → i + suc (lastOf c) ≤ n → stamp ≡ suc cycles
+      → s ≡ recalled r notes span (c .context) cycles i → t ≡ cycleStands r i stamp s c → t ≡ cycleNext r n notes span i cycles c
   unfolding cycleNext
-  compared some room e = rw (ne-eqb (c .context .cn) 0 some, le-leb (i + suc (lastOf c)) n room) e
+  compared some room next own e = rw (ne-eqb (c .context .cn) 0 some, le-leb (i + suc (lastOf c)) n room, ← next, ← own) e
 
 module _ {r : ℕ → Cells} {n : ℕ} {notes : List ℕ} {span : Span} {done : Counts} {i : ℕ} (w : Walked r n notes span done i) where
   abbrev k : ℕ
@@ -183,18 +183,20 @@ module _ {r : ℕ → Cells} {n : ℕ} {notes : List ℕ} {span : Span} {done : 
     run : Run r i (lastOf c) (c .context)
     run j h = rw (there j h) (row-used k (before r i (c .context)) c j, is-row (suc k) (before r i (c .context)) c j .context)
 
-    -- behind it the next may start; its last row is noted, and it is counted
-    pub walked-next : c .context .cn < 2 ^ 32 → c .end1 < 256 ^ 17 → c .end2 < 256 ^ 17
-        → Walked r n (set notes (slotOf (c .context)) (i + lastOf c)) (wider span (c .context)) (withCycle done c) (i + suc (lastOf c))
-    walked-next cn end1 end2 =
+    -- behind it the next may start; its last row is noted, its context is in the span, and it is counted
+    pub walked-next : {noted : List ℕ} {wide : Span} {more : Counts} {end : ℕ} → c .context .cn < 2 ^ 32 → c .end1 < 256 ^ 17 → c .end2 < 256 ^ 17
+        → noted ≡ set notes (slotOf (c .context)) (i + lastOf c) → wide ≡ wider span (c .context) → more ≡ withCycle done c → end ≡ i + suc (lastOf c)
+        → Walked r n noted wide more end
+    walked-next cn end1 end2 p q s e =
         let some : c .context .cn ≢ 0 = eqb-false (c .context .cn) 0 (not-true (eqb (c .context .cn) 0) (tests .0 .0)) in
         let valid : ValidClaim c = record { some = omega arith; cn = cn; end1 = end1; end2 = end2 } in
-        record {
+        rw (p, q, s, e)
+        (record {
           within = next-fits;
           ready = rw (add-one k) (ready-next r n k c valid i (w .ready) next-fits there);
           known = known-run (w .known) (w .ready .some) (c .context) (lastOf c) run;
           counted = ap (λ (x : Counts). withCycle x c) (w .counted) ∙ sym (counts-cycle r i k c there);
-        }
+        })
 
 -- a cycle has no more rows than one out of bounds
 pub last-le : (c : Claim) → lastOf c ≤ outLast

@@ -8,7 +8,7 @@ use native.Mathlib.Omega.{arith}
 use lib.Dec.{eqb}
 use Rattle.model.specs.Columns.{Cells, emptyRow, table}
 use Rattle.model.specs.Constraints.{inUse, k3, k4, k9, k25, constraintsBy, firstFailed, firstBroken}
-use Rattle.model.specs.Cycles.{counts, Looked}
+use Rattle.model.specs.Cycles.{counts}
 use Rattle.model.specs.State.{contextOf}
 use Rattle.model.specs.Verdict.{rowBefore, before, brokenAt, judged, meet, verdictBy}
 use Rattle.model.proofs.JudgeLaws.{judged-stops}

@@ -1,6 +1,6 @@
 // Cycle after cycle: a cycle that stands as the filler writes it meets all constraints.
 ghost use mathlib.Core.Path.{_≡_};
-ghost use Prim.Native.Nat.{suc, _+_, _*_, _≤_, _<_};
+ghost use Prim.Native.Nat.{_+_, _*_, _≤_, _<_};
 ghost use lib.ListN.{length};
 ghost use Rattle.model.specs.Columns.{rowBytes, rowAt, table};
 ghost use Rattle.model.specs.Cycles.{counts as Cycles·counts};

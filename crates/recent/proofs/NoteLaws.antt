@@ -3,7 +3,7 @@ use Prim.Native.Nat.{ℕ, zero, suc, _+_, _-_, _≤_, _<_}
 use mathlib.Core.Bool.{Bool, true, false, false≢true, _&&_, _||_}
 use mathlib.Core.List.{List}
 use mathlib.Core.Logic.{_≢_}
-use mathlib.Core.Path.{_≡_, refl, sym, _∙_, ap}
+use mathlib.Core.Path.{_≡_, refl, sym, _∙_}
 use native.Mathlib.Decide.{decLt}
 use native.Mathlib.Nat.{add-suc, add-zero, le-step, lt-suc-self}
 use native.Mathlib.Omega.{arith}
@@ -13,14 +13,14 @@ use lib.ListN.{getD, set, replicate, length-set, length-replicate, getD-replicat
 use lib.Seq.{getD-set-same, getD-set-other}
 use Rattle.model.specs.Columns.{Cells}
 use Rattle.model.specs.Constraints.{inUse}
-use Rattle.model.specs.State.{Context, State, sameContext, contextOf, stateOf, start, put}
+use Rattle.model.specs.State.{Context, sameContext, contextOf, stateOf, start, put}
 use Rattle.model.specs.Tests.{pick}
 use Rattle.model.specs.Verdict.{passed, before}
 use Rattle.model.proofs.TestFacts.{eqb-self, pick-has, pick-second}
 use Rattle.state.specs.Look.{lookBack}
 use Rattle.state.specs.Order.{lowerContext}
 use Rattle.state.proofs.OrderLaws.{lower-self, lower-trans, told-apart}
-use Rattle.recent.specs.Notes.{slots, slotOf, latest, Span, outside, lowerOf, higherOf, wider, Known, shown, recalled}
+use Rattle.recent.specs.Notes.{slots, slotOf, latest, Span, outside, wider, Known, shown, recalled}
 
 -- ---- the latest row of an entry
 

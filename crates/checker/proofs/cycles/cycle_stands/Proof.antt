@@ -1,8 +1,5 @@
 -- `checker::cycles::cycle_stands` answers by its three tests: where the first or the second fails the answer is false (`no-context`, `no-room`), and past them
 -- the comparison decides (`compared`).
-use Prim.Native.Nat.{suc, _+_, _≤_}
-use mathlib.Core.Path.{_≡_, _∙_}
-use native.Mathlib.Numerals.{add-one}
 use native.Mathlib.Omega.{arith}
 use borrow.Author.Needs.{needs}
 use Rattle.checker.proofs.CycleLaws.{no-context, no-room, compared}
@@ -41,10 +38,7 @@ returns-3 c =
     let found = c .before in
     let rows = found .before .before .before in
     let some = rows .before in
-    let start = some .before .before .before in
-    let room : start .args .i + rows .rows-of .result ≤ start .args .n = omega arith in
-    compared _ _ _ _ _ _ _ (some .if1 .left) (rw (rows .rows-of .ensures) at room)
-    (c .cycle-is .ensures ∙ rw (found .recall .ensures, add-one (start .args .cycles)))
+    compared _ _ _ _ _ _ _ (some .if1 .left) (omega (arith, rows .rows-of .ensures)) (omega arith) (found .recall .ensures) (c .cycle-is .ensures)
 
 pub cycle-stands-spec : {M : Type 1} → statement M
 cycle-stands-spec =

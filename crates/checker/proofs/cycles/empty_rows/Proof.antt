@@ -1,6 +1,6 @@
 -- `checker::cycles::empty_rows`: before row i all rows are empty, so that what is left decides (`passes-empty`). The rows that are left fall.
 use Prim.Native.Nat.{_-_, _≤_}
-use mathlib.Core.Path.{_≡_, refl, sym, _∙_}
+use mathlib.Core.Path.{_≡_, sym, _∙_}
 use native.Mathlib.Nat.{sub-zero}
 use native.Mathlib.Omega.{arith}
 use borrow.Author.Needs.{needs}

@@ -1,18 +1,18 @@
 -- `checker::cycles::verdict_on`: before row i the rows are empty ones and whole cycles (`Walked`). The rows that are left fall. Where the next cycle does not
 -- stand the rest is judged row by row; past the last row, all meet the constraints (`told-accepted`).
-use Prim.Native.Nat.{suc, _+_, _-_, _≤_, _<_}
+use Prim.Native.Nat.{_+_, _-_, _≤_, _<_}
 use mathlib.Core.Bool.{true}
 use mathlib.Core.Path.{_≡_, refl, sym, _∙_, ap}
 use native.Mathlib.Omega.{arith}
 use borrow.Author.Needs.{needs}
 use borrow.Author.Tests.{not-false}
+use lib.ListN.{set}
 use Rattle.number.proofs.WholeLaws.{val-lt}
 use Rattle.model.specs.Columns.{rowAt}
-use Rattle.model.specs.Trace.{lastOf}
 use Rattle.claim.specs.Told.{plainClaim}
 use Rattle.count.specs.Counts.{plainCounts}
 use Rattle.count.proofs.CountLaws.{counts-none}
-use Rattle.recent.specs.Notes.{plainSpan}
+use Rattle.recent.specs.Notes.{slotOf, plainSpan}
 use Rattle.checker.specs.Steps.{cycleNext}
 use Rattle.checker.proofs.RowLaws.{meets-first, told-accepted}
 use Rattle.checker.proofs.CycleLaws.{Walked, walked-first, walked-stamp, walked-few, recalls-sound, next-fits, walked-next, last-le}
@@ -127,11 +127,11 @@ loop-again c =
     let ok = shown .claim-shown .ok in
     let l = shown .before .before .loop in
     let d = plainClaim held in
-    let last : l .i + rows .rows-of .result - 1 ≡ l .i + lastOf d = omega (arith, rows .rows-of .ensures) in
-    rw (noted .note .ensures, last, c .widened .ensures, counted .with-cycle .ensures, rows .rows-of .ensures)
-    (walked-next (l .inv) d (stands turn) (omega (arith, ok))
+    walked-next (l .inv) d (stands turn) (omega (arith, ok))
     (val-lt (held .end1) (omega (arith, ok)) (omega (arith, ok)) (omega (arith, ok)))
-    (val-lt (held .end2) (omega (arith, ok)) (omega (arith, ok)) (omega (arith, ok))))
+    (val-lt (held .end2) (omega (arith, ok)) (omega (arith, ok)) (omega (arith, ok)))
+    (noted .note .ensures ∙ ap (set (l .notes) (slotOf (d .context))) (omega (arith, rows .rows-of .ensures)))
+    (c .widened .ensures) (counted .with-cycle .ensures) (omega (arith, rows .rows-of .ensures))
 
 returns-3 : tie.Need-returns-3 Inv-loop μ-loop
 returns-3 c =

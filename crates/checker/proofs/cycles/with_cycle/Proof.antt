@@ -1,5 +1,4 @@
 -- `checker::cycles::with_cycle` counts the cycle, and counts it as out of bounds where it has so many rows (`long-out`).
-use mathlib.Core.Path.{_∙_, ap}
 use borrow.Author.Needs.{needs}
 use Rattle.claim.specs.Told.{plainClaim}
 use Rattle.checker.proofs.CycleLaws.{long-out}
