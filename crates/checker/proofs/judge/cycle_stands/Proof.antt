@@ -13,40 +13,28 @@ use Rattle.claim.specs.Told.{plainClaim}
 use borrow.Author.Needs.{needs}
 use Rattle.checker.proofs.judge.cycle_stands.Statement.{statement}
 use Rattle.checker.proofs.judge.cycle_stands.Tie as tie
-use Rattle.checker.proofs.judge.cycle_stands.Reads as reads
-use Rattle.checker.proofs.judge.cycle_stands.Lts as lts
-use Rattle.cycle.proofs.rows_of.Reads as rows-of-reads
-use Rattle.recent.proofs.recall.Reads as recall-reads
 
--- src/judge.rt:175:9
 returns : tie.Need-returns
 returns c h = clash cc
 
--- src/judge.rt:177:8
 sub-if2 : tie.Need-sub-if2
 sub-if2 c = search needs
 
--- src/judge.rt:177:16
 rows-of-requires : tie.Need-rows-of-requires
 rows-of-requires c κs = search needs
 
--- src/judge.rt:178:9
 returns-2 : tie.Need-returns-2
 returns-2 c h = clash cc
 
--- src/judge.rt:181:9
 recall-requires : tie.Need-recall-requires
 recall-requires c κs = search needs
 
--- src/judge.rt:182:20
 cast-cycle-is : tie.Need-cast-cycle-is
 cast-cycle-is c = search needs
 
--- src/judge.rt:182:20
 add-cycle-is : tie.Need-add-cycle-is
 add-cycle-is c = search needs
 
--- src/judge.rt:182:5
 -- the state that the call answers
 answers : (c : tie.After-recall)
     → let a = c .before .before .before .before .before .before .before .args in
@@ -72,7 +60,6 @@ cycle-is-requires c κs =
     let rows = found .before .before .before .rows-of .ensures in
     (omega (arith, rows), rw (answers found) (start .pre .1 .1 .1 .1))
 
--- src/judge.rt:166:1
 returns-3 : tie.Need-returns-3
 returns-3 c h =
     let found = c .before in

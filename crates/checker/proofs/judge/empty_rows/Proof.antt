@@ -9,8 +9,6 @@ use Rattle.model.specs.Columns.{emptyRow, rowAt}
 use Rattle.compare.proofs.ZeroLaws.{zeros-empty}
 use Rattle.checker.proofs.judge.empty_rows.Statement.{statement}
 use Rattle.checker.proofs.judge.empty_rows.Tie as tie
-use Rattle.checker.proofs.judge.empty_rows.Reads as reads
-use Rattle.checker.proofs.judge.empty_rows.Lts as lts
 
 abbrev Inv-loop : tie.InvT-loop
 Inv-loop t n i₀ i = (i ≤ n) × ((j : ℕ) → j < i → rowAt t j ≡ emptyRow)
@@ -18,33 +16,26 @@ Inv-loop t n i₀ i = (i ≤ n) × ((j : ℕ) → j < i → rowAt t j ≡ emptyR
 abbrev μ-loop : tie.MeasureT-loop
 μ-loop t n i₀ i = n - i
 
--- src/judge.rt:156:5
 loop-holds : tie.Need-loop-holds Inv-loop μ-loop
 loop-holds c = (omega arith, λ j h. absurd (omega arith))
 
--- src/judge.rt:157:13
 is-empty-requires : tie.Need-is-empty-requires Inv-loop μ-loop
 is-empty-requires c κs = search needs
 
--- src/judge.rt:158:13
 returns : tie.Need-returns Inv-loop μ-loop
 returns c = search needs
 
--- src/judge.rt:160:9
 add-i : tie.Need-add-i Inv-loop μ-loop
 add-i c = search needs
 
--- src/judge.rt:156:5
 loop-less : tie.Need-loop-less Inv-loop μ-loop
 loop-less c = search needs
 
--- src/judge.rt:156:5
 loop-again : tie.Need-loop-again Inv-loop μ-loop
 loop-again c =
     let l = c .before .before .before .loop in
     (search needs, below-more _ _ (l .inv .1) (zeros-empty _ (sym (c .before .is-empty .ensures) ∙ not-false (c .before .is-empty .result) (c .if1 .left))))
 
--- src/judge.rt:150:1
 returns-2 : tie.Need-returns-2 Inv-loop μ-loop
 returns-2 c = search needs
 

@@ -15,14 +15,6 @@ use Rattle.count.proofs.CountLaws.{room, counted-next, counted-cells}
 use Rattle.checker.proofs.RowLaws.{broken-is, meets-next, told-broken, told-accepted}
 use Rattle.checker.proofs.judge.verdict_from.Statement.{statement}
 use Rattle.checker.proofs.judge.verdict_from.Tie as tie
-use Rattle.checker.proofs.judge.verdict_from.Reads as reads
-use Rattle.checker.proofs.judge.verdict_from.Lts as lts
-use Rattle.cell.proofs.read.u32_at.Reads as u32-at-reads
-use Rattle.cell.proofs.read.u8_at.Reads as u8-at-reads
-use Rattle.checker.proofs.judge.keeps_state.Reads as keeps-state-reads
-use Rattle.checker.proofs.judge.named_constraint.Reads as named-constraint-reads
-use Rattle.checker.proofs.judge.note_row.Reads as note-row-reads
-use Rattle.count.proofs.count_cells.Reads as count-cells-reads
 
 abbrev Inv-loop : tie.InvT-loop
 Inv-loop t n from notes₀ behind c₀ cycles₀ i₀ notes c cycles i =

@@ -24,14 +24,6 @@ use Rattle.checker.proofs.RowLaws.{meets-first, told-accepted}
 use Rattle.checker.proofs.CycleLaws.{countsAs, counts-empty, notes-empty, ready-stamp, recalls-sound, ready-behind, notes-behind, counts-behind, oob-bit, few}
 use Rattle.checker.proofs.judge.verdict_on.Statement.{statement}
 use Rattle.checker.proofs.judge.verdict_on.Tie as tie
-use Rattle.checker.proofs.judge.verdict_on.Reads as reads
-use Rattle.checker.proofs.judge.verdict_on.Lts as lts
-use Rattle.checker.proofs.judge.cycle_stands.Reads as cycle-stands-reads
-use Rattle.checker.proofs.judge.empty_rows.Reads as empty-rows-reads
-use Rattle.checker.proofs.judge.verdict_from.Reads as verdict-from-reads
-use Rattle.cycle.proofs.rows_of.Reads as rows-of-reads
-use Rattle.recent.proofs.note.Reads as note-reads
-use Rattle.words.proofs.bit.Reads as bit-reads
 
 abbrev Inv-loop : tie.InvT-loop
 Inv-loop t n notes₀ empty oob₀ cycles₀ i₀ notes oob cycles i =
@@ -40,57 +32,46 @@ Inv-loop t n notes₀ empty oob₀ cycles₀ i₀ notes oob cycles i =
 abbrev μ-loop : tie.MeasureT-loop
 μ-loop t n notes₀ empty oob₀ cycles₀ i₀ notes oob cycles i = n - i
 
--- src/judge.rt:193:9
 empty-rows-requires : tie.Need-empty-rows-requires Inv-loop μ-loop
 empty-rows-requires c κs = search needs
 
--- src/judge.rt:203:9
 verdict-from-requires : tie.Need-verdict-from-requires Inv-loop μ-loop
 verdict-from-requires c κs =
     let start = c .before .before .before .before in
     (start .pre .0, (start .pre .1, (omega arith, (meets-first _ _, (notes-first _, (refl, sym (counts-none _)))))))
 
--- src/judge.rt:203:9
 returns : tie.Need-returns Inv-loop μ-loop
 returns c = c .verdict-from .ensures
 
--- src/judge.rt:205:5
 loop-holds : tie.Need-loop-holds Inv-loop μ-loop
 loop-holds c =
     let found = c .before .empty-rows .ensures in
     (found .0, ready-first _ _ _ (found .1) (omega arith), notes-empty _ _ (found .1), counts-empty _ _ (found .1))
 
--- src/judge.rt:206:13
 claim-shown-requires : tie.Need-claim-shown-requires Inv-loop μ-loop
 claim-shown-requires c κs = search needs
 
--- src/judge.rt:207:13
 cycle-stands-requires : tie.Need-cycle-stands-requires Inv-loop μ-loop
 cycle-stands-requires c κs =
     let l = c .before .before .before .loop in
     let start = c .before .before .before .before .before .before .before in
     (start .pre .0, (l .inv .0, (omega (arith, few _ _ _ _ _ (l .inv .3)), (l .inv .2, recalls-sound (l .inv .1) (l .inv .2) _))))
 
--- src/judge.rt:213:13
 verdict-from-requires-2 : tie.Need-verdict-from-requires-2 Inv-loop μ-loop
 verdict-from-requires-2 c κs =
     let l = c .before .before .before .before .before .before .loop in
     let start = c .before .before .before .before .before .before .before .before .before .before in
     (start .pre .0, (start .pre .1, (l .inv .0, (l .inv .1 .meets, (l .inv .2, (ready-stamp (l .inv .1), l .inv .3))))))
 
--- src/judge.rt:213:13
 returns-2 : tie.Need-returns-2 Inv-loop μ-loop
 returns-2 c = c .verdict-from2 .ensures
 
--- src/judge.rt:215:13
 rows-of-requires : tie.Need-rows-of-requires Inv-loop μ-loop
 rows-of-requires c κs = search needs
 
--- src/judge.rt:216:16
 bit-requires : tie.Need-bit-requires Inv-loop μ-loop
 bit-requires c κs = search needs
 
--- src/judge.rt:216:9
 -- the cycle that stands
 stands : (c : tie.After-bit Inv-loop μ-loop)
     → let l = c .before .before .before .before .before .before .before .loop in
@@ -106,29 +87,23 @@ add-oob c =
     let l = c .before .before .before .before .before .before .before .loop in
     omega (arith, few _ _ _ _ _ (l .inv .3), c .bit .ensures .1)
 
--- src/judge.rt:217:9
 add-i : tie.Need-add-i Inv-loop μ-loop
 add-i c = omega (arith, stands c .fits, c .before .rows-of .ensures)
 
--- src/judge.rt:218:41
 sub-note : tie.Need-sub-note Inv-loop μ-loop
 sub-note c = omega (arith, c .before .before .rows-of .ensures)
 
--- src/judge.rt:218:9
 note-requires : tie.Need-note-requires Inv-loop μ-loop
 note-requires c κs = omega (arith, stands (c .before) .fits, c .before .before .rows-of .ensures)
 
--- src/judge.rt:219:9
 add-cycles : tie.Need-add-cycles Inv-loop μ-loop
 add-cycles c =
     let l = c .before .before .before .before .before .before .before .before .before .loop in
     omega (arith, few _ _ _ _ _ (l .inv .3))
 
--- src/judge.rt:205:5
 loop-less : tie.Need-loop-less Inv-loop μ-loop
 loop-less c = omega (arith, stands (c .before .before) .fits, c .before .before .before .rows-of .ensures)
 
--- src/judge.rt:205:5
 loop-again : tie.Need-loop-again Inv-loop μ-loop
 loop-again c =
     let tested = c .before .before in
@@ -145,7 +120,6 @@ loop-again c =
       rw (rows, out) (counts-behind (l .inv .1) (l .inv .2) d next (l .inv .3)),
     )
 
--- src/judge.rt:186:1
 returns-3 : tie.Need-returns-3 Inv-loop μ-loop
 returns-3 c =
     let l = c .before .loop in
