@@ -128,27 +128,6 @@ module _ {l : List ℕ} {s : Span} {r : ℕ → Cells} {i : ℕ} (known : Known 
     inside = λ j h. rw (same j h) (known .inside j h);
   }
 
-  -- a row that is not in use changes nothing
-  pub known-unused : inUse (r i) ≡ false → Known l s r (suc i)
-  known-unused u = record {
-    size = known .size;
-    entry = λ slot h. known .entry slot h ∙ sym (latest-unused r slot i u);
-    first = λ some. first-by (decLt 0 i);
-    inside = λ j h used. inside-by j h used (decLt j i);
-  }
-    where
-      first-by : Dec (0 < i) → inUse (r 0) ≡ false
-      first-by (yes some) = known .first some
-      first-by (no none) =
-          let e : i ≡ 0 = omega arith in
-          rw e at u
-
-      inside-by : (j : ℕ) → j < suc i → inUse (r j) ≡ true → Dec (j < i) → outside s (contextOf (r j)) ≡ false
-      inside-by j h used (yes b) = known .inside j b used
-      inside-by j h used (no b) =
-          let e : j ≡ i = omega arith in
-          absurd (false≢true (sym u ∙ rw e at used))
-
   -- of rows in use with one context the last is noted, and the context is in the span
   pub known-run : 0 < i → (x : Context) (m : ℕ) → Run r i m x → Known (set l (slotOf x) (i + m)) (wider s x) r (i + suc m)
   known-run some x m run = record {
@@ -168,14 +147,6 @@ module _ {l : List ℕ} {s : Span} {r : ℕ → Cells} {i : ℕ} (known : Known 
       inside-by j h used (no b) =
           let place : i + (j - i) ≡ j = omega arith in
           rw (rw place at (run (j - i) (omega arith) .1)) (new-inside s x)
-
-  -- and so for one row
-  pub known-used : 0 < i → inUse (r i) ≡ true → Known (set l (slotOf (contextOf (r i))) i) (wider s (contextOf (r i))) r (suc i)
-  known-used some used = rw (add-suc, add-zero) at (known-run some (contextOf (r i)) 0 one)
-    where
-      one : Run r i 0 (contextOf (r i))
-      one zero h = rw add-zero (used, refl)
-      one (suc j) h = absurd (omega arith)
 
 -- ---- the state before a row
 
