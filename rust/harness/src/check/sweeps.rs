@@ -1,5 +1,5 @@
 //! Everything of one kind put to both checkers: every bit of a trace, every cut of it, and every cycle of it at other
-//! stamps, at other states and of other contexts. Each states whether the trace is meant to be accepted.
+//! stamps, at other states and of other contexts.
 
 use std::collections::BTreeSet;
 use std::ops::Range;
@@ -15,13 +15,14 @@ const EMPTY: usize = 2;
 
 /// Traces in which a cycle of either kind is the first, the last and one between: of contexts that come back, that share
 /// their remainders, and that are the least and the largest there may be.
-fn tours() -> [Draft; 3] {
+fn tours() -> [Draft; 4] {
     let near = Claim::small;
     let far = |cn, end: u32| Claim { cn, end1: BOUND.wrapping_add(end.into()), end2: Wide::from(end) };
     let either = [near(7, 2_571, 300), far(7, 258), near(1_031, 33, 64), near(7, 0x12_3456, 0x06_5432)];
     let beyond = [far(1, 5), near(1, 64, 96), near(u32::MAX, 64, 0), near(1, 96, 96), far(u32::MAX, 0x01_0000)];
     let within = [near(9, 64, 0), near(8, 32, 0), near(9, 64, 65), near(10, 0, 0), near(8, 0, 1_000), near(9, 1, 0)];
-    [&either[..], &beyond, &within].map(|claims| Draft::new(EMPTY, claims))
+    let again = [near(5, 64, 0), near(6, 32, 0), near(5, 96, 0)];
+    [&either[..], &beyond, &within, &again].map(|claims| Draft::new(EMPTY, claims))
 }
 
 /// Compares on all of it; answers how many traces there were.
@@ -33,15 +34,12 @@ pub fn compare_all() -> Outcome<usize> {
     Ok(traces)
 }
 
-/// Both checkers must say of a trace whether it is right as it is meant.
-fn expect(trace: &[u8], right: bool, what: &dyn Fn() -> String) -> Outcome<()> {
+/// Both checkers must come to the same, and say of a trace whether it is right as it is meant, if anything is.
+fn expect(trace: &[u8], right: Option<bool>, what: &dyn Fn() -> String) -> Outcome<()> {
     let told = |error: String| format!("check sweep, {}: {error}", what());
     let verdict = compare(trace).map_err(told)?;
-    match verdict {
-        Verdict::Accepted { .. } if right => Ok(()),
-        Verdict::Broken { .. } | Verdict::Refused { .. } if !right => Ok(()),
-        _ => Err(told(format!("both answer {verdict}"))),
-    }
+    let accepted = matches!(verdict, Verdict::Accepted { .. });
+    if right.is_none_or(|right| right == accepted) { Ok(()) } else { Err(told(format!("both answer {verdict}"))) }
 }
 
 /// Any one bit changed, which no trace survives.
@@ -50,7 +48,7 @@ fn every_bit(tour: &Draft) -> Outcome<usize> {
     for at in 0..bytes.len() {
         for bit in 0..8 {
             bytes[at] ^= 1 << bit;
-            expect(&bytes, false, &|| format!("bit {bit} of byte {} in row {}", at % ROW_BYTES, at / ROW_BYTES))?;
+            expect(&bytes, Some(false), &|| format!("bit {bit} of byte {} in row {}", at % ROW_BYTES, at / ROW_BYTES))?;
             bytes[at] ^= 1 << bit;
         }
     }
@@ -62,7 +60,7 @@ fn every_cut(tour: &Draft) -> Outcome<usize> {
     let bytes = tour.to_bytes();
     let ends: BTreeSet<usize> = cycles(tour).iter().map(|cycle| cycle.end).chain(1..=EMPTY).collect();
     for kept in 0..=tour.rows.len() {
-        expect(&bytes[..kept * ROW_BYTES], ends.contains(&kept), &|| format!("cut after {kept} rows"))?;
+        expect(&bytes[..kept * ROW_BYTES], Some(ends.contains(&kept)), &|| format!("cut after {kept} rows"))?;
     }
     Ok(tour.rows.len() + 1)
 }
@@ -85,11 +83,9 @@ fn every_place(tour: &Draft) -> Outcome<usize> {
             let mut rows = tour.rows.clone();
             rows.splice(cycle.clone(), make_cycle(stamp, &claim, state));
             traces += 1;
-            let told = || format!("cycle {} as {claim:?} at stamp {stamp} and {state:?}", row.stamp);
-            match right {
-                Some(right) => expect(&Draft { rows }.to_bytes(), right, &told),
-                None => compare(&Draft { rows }.to_bytes()).map(drop).map_err(|error| format!("{}: {error}", told())),
-            }
+            expect(&Draft { rows }.to_bytes(), right, &|| {
+                format!("cycle {} as {claim:?} at stamp {stamp} and {state:?}", row.stamp)
+            })
         };
         for stamp in stamps_near(row.stamp) {
             put(stamp, claim, own, Some(stamp == row.stamp))?;
@@ -97,7 +93,7 @@ fn every_place(tour: &Draft) -> Outcome<usize> {
         for &state in &states {
             put(row.stamp, claim, state, Some(state == own))?;
         }
-        // A cycle of another context may be right, and the cycles behind it too.
+        // A cycle of another context may be right, and those behind it too.
         for cn in contexts_near(tour, row.cn) {
             for &state in &states {
                 put(row.stamp, Claim { cn, ..claim }, state, (cn == 0).then_some(false))?;

@@ -48,14 +48,14 @@ fn strangers(count: usize, random: &mut Random) -> Vec<u32> {
     contexts.into_iter().collect()
 }
 
-/// So many contexts at one distance, neighbours or such that share their remainders, from 1 on, up to the largest, or
-/// anywhere.
+/// So many contexts at one distance, neighbours or such that share their remainders: from 1 on, up to the largest, around
+/// the middle of all, or anywhere.
 pub fn family(count: usize, random: &mut Random) -> Vec<u32> {
     let distance = random.pick(&DISTANCES);
     let span = distance * (count as u32 - 1);
     let room = u32::MAX - span;
     let any = 1 + random.next() as u32 % room;
-    let first = random.pick(&[1, room, any]);
+    let first = random.pick(&[1, room, (1 << 31) - span / 2, any]);
     (0..count as u32).map(|place| first + distance * place).collect()
 }
 

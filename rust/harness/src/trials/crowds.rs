@@ -1,5 +1,5 @@
-//! A random list of more contexts than there are remainders by 1,024, put to both fillers; and the trace that comes of it,
-//! right and damaged, to both checkers.
+//! A random list of more contexts than there are remainders by 1,024, put to both fillers; and the trace that comes of
+//! it, right and damaged, to both checkers.
 
 use reference::row::Row;
 use reference::{Draft, ROW_BYTES};

@@ -1,5 +1,5 @@
-//! How the context of an instruction stands to those of the instructions before it: whether it is known, how it stands to
-//! the lowest and the highest, and whether another came since that shares its remainder.
+//! How the context of an instruction stands to those of the instructions before it: whether it is known, how it stands
+//! to the lowest and the highest, and whether another came since that shares its remainder.
 
 use std::collections::{BTreeSet, HashMap, HashSet};
 use std::fmt;

@@ -92,8 +92,8 @@ pub fn another_context(draft: &mut Draft, cycle: Range<usize>, random: &mut Rand
     put(draft, cycle, row.stamp, &Claim { cn, ..Claim::of_row(&row) }, state_before(&row));
 }
 
-/// The same ends, but of another context and at that one's state: right where it stands, and the cycles after it that go
-/// on from it are not.
+/// The same ends, but of another context and at that one's state: right where it stands, but not what the cycles after
+/// it go on from.
 pub fn anothers_cycle(draft: &mut Draft, cycle: Range<usize>, random: &mut Random) {
     let row = draft.rows[cycle.start];
     let cn = others_number(draft, &cycle, random);

@@ -1,5 +1,5 @@
-//! A trace made again cycle by cycle, each from what its first row claims and from where its context stands: the cycle at
-//! which that ends, and why. A trace is right exactly if it does not end before the last row.
+//! A trace made again cycle by cycle, each from what its first row claims and from where its context stands: the cycle
+//! at which that ends, and why. A trace is right exactly if it does not end before the last row.
 
 use std::collections::HashMap;
 use std::ops::Range;

@@ -1,4 +1,5 @@
-//! The summary of a tally: tables of the hits by constraint, by refusal and by damage, and how far traces and lists reach.
+//! The summary of a tally: tables of the hits by constraint, by refusal and by damage, where wrong traces go wrong, how
+//! far traces and lists reach, and what contexts they have.
 
 use std::fmt::{Display, Formatter, Result};
 
@@ -92,10 +93,10 @@ fn write_meetings(tally: &Tally, out: &mut Formatter<'_>) -> Result {
         let [traces, lists] = [Source::Traces, Source::Lists].map(|source| tally.count(met(source)));
         format!("{traces:>8}{lists:>8}")
     };
-    let crowd = format!("  {:<34}{}", "one of more than 1,024", counts(&Met::Crowd));
+    let crowd = format!("  {:<38}{}", "one of more than 1,024", counts(&Met::Crowd));
     let meetings = Meeting::all().map(|meeting| {
         let name = meeting.to_string();
-        format!("  {name:<34}{}", counts(&|source| Met::Meeting(source, meeting)))
+        format!("  {name:<38}{}", counts(&|source| Met::Meeting(source, meeting)))
     });
     let all: Vec<String> = meetings.chain([crowd]).collect();
     all.chunks(MEETINGS_IN_A_LINE).try_for_each(|line| writeln!(out, "context, traces, lists{}", line.concat()))

@@ -226,8 +226,8 @@ fn wanted_stops() -> impl Iterator<Item = Met> {
     broken.chain(differs).chain(KINDS.map(Met::Cut)).chain(misplaced).chain(sharing)
 }
 
-/// Whether a constraint can be the first that is broken in a cycle at a place: 2 and 6 are of rows before which there is
-/// no instruction, 26 is of the last row.
+/// Whether a constraint can be the first that is broken in a cycle at a place: 2 and 6 are of rows before which there
+/// is no instruction, 26 is of the last row.
 pub fn can_be_broken(constraint: u8, place: Place) -> bool {
     match constraint {
         2 | 6 => place == Place::First,
