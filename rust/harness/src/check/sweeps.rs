@@ -13,8 +13,8 @@ use crate::check::compare::compare;
 /// The empty rows of each tour.
 const EMPTY: usize = 2;
 
-/// Traces in which a cycle of either kind is the first, the last and one between: of contexts that come back, that share
-/// their remainders, and that are the least and the largest there may be.
+/// Traces in which a cycle of either kind is the first, the last and one between: of contexts that come back, that
+/// share their remainders, and that are the least and the largest there may be.
 fn tours() -> [Draft; 4] {
     let near = Claim::small;
     let far = |cn, end: u32| Claim { cn, end1: BOUND.wrapping_add(end.into()), end2: Wide::from(end) };

@@ -48,8 +48,8 @@ fn strangers(count: usize, random: &mut Random) -> Vec<u32> {
     contexts.into_iter().collect()
 }
 
-/// So many contexts at one distance, neighbours or such that share their remainders: from 1 on, up to the largest, around
-/// the middle of all, or anywhere.
+/// So many contexts at one distance, neighbours or such that share their remainders: from 1 on, up to the largest,
+/// around the middle of all, or anywhere.
 pub fn family(count: usize, random: &mut Random) -> Vec<u32> {
     let distance = random.pick(&DISTANCES);
     let span = distance * (count as u32 - 1);
