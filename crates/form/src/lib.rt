@@ -7,7 +7,7 @@ ghost use Prim.Native.Nat.{_+_, _*_, _%_, _^_, _≤_, _<_};
 ghost use lib.Dec.{eqb, leb};
 ghost use lib.ListN.{length};
 ghost use Rattle.cell.specs.Low.{le};
-ghost use Rattle.form.specs.Plain.{mostDigits, nameText, matched, halfRun, digitRun, number};
+ghost use Rattle.form.specs.Plain.{mostDigits, Bounded, nameText, matched, halfRun, digitRun, number};
 ghost use Rattle.form.specs.Read.{charAt, readText, joined, run, lastPlace, readDigits, readNumber};
 ghost use Rattle.form.specs.Table.{counts, digitTable};
 use long::Long;
@@ -84,7 +84,7 @@ fn low8(t: &[u8], p: usize) -> u64
 
 // Whether eight characters from p on are there and begin with the name's.
 fn stands(t: &[u8], p: usize, name: Name) -> bool
-    requires { ⌜ (name .bound ≡ 256 ^ name .len) × (name .len < 8) ⌝ }
+    requires { ⌜ Bounded name ⌝ }
     ensures { λ r. ⌜ r ≡ (leb (p + 8) (length (now (t .entry))) && eqb (joined 8 (now (t .entry)) p % 256 ^ name .len) (name .number)) ⌝ }
 {
     if t.len() <= p {
@@ -119,7 +119,7 @@ fn walk_name(t: &[u8], p: usize, number: u64, len: usize) -> Matched
 
 // The characters of a name from p on: in one comparison where they stand there, else one by one to the first that differs.
 pub fn read_name(t: &[u8], p: usize, name: Name) -> Matched
-    requires { ⌜ (name .bound ≡ 256 ^ name .len) × (name .len < 8) ⌝ }
+    requires { ⌜ Bounded name ⌝ }
     ensures { λ r. ⌜ matched r ≡ readText (nameText name) (now (t .entry)) p ⌝ }
 {
     if stands(t, p, name) {

@@ -1,10 +1,9 @@
 -- `form::read_name` meets its contract: where the number of the characters ends with the name's the name stands there (`name-stands`), else it is walked.
-use Prim.Native.Nat.{_+_, _-_, _%_, _^_, _≤_}
+use Prim.Native.Nat.{_+_, _-_, _%_, _^_}
 use mathlib.Core.Path.{_≡_, sym, _∙_}
 use native.Mathlib.Omega.{arith}
 use borrow.Author.Needs.{needs}
 use borrow.Author.Tests.{leb-true, eqb-true}
-use lib.Dec.{eqb, leb}
 use lib.ListN.{length}
 use Rattle.number.proofs.TestLaws.{both}
 use Rattle.form.specs.Read.{joined}
