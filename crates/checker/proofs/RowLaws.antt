@@ -1,29 +1,21 @@
 -- What the checker knows at a row gives the row's first broken constraint, and with it what it knows at the next row.
-use Prim.Native.Nat.{ℕ, zero, suc, _+_, _-_, _*_, _<_}
-use mathlib.Core.Bool.{Bool, true, false}
-use mathlib.Core.List.{List}
+use Prim.Native.Nat.{ℕ, zero, suc, _+_, _-_, _<_}
+use mathlib.Core.Bool.{Bool, true}
 use mathlib.Core.Logic.{_≢_}
-use mathlib.Core.Path.{_≡_, refl, sym, _∙_, ap, subst}
-use native.Mathlib.Nat.{lt-suc-self}
+use mathlib.Core.Path.{_≡_, refl, sym, ap}
 use native.Mathlib.Numerals.{add-one}
 use native.Mathlib.Omega.{arith}
-use borrow.Author.Tests.{ne-eqb}
-use lib.Dec.{eqb, eqb·suc-zero}
-use Rattle.model.specs.Columns.{Cells, emptyRow, rowBytes, rowAt, table}
-use Rattle.model.specs.Constraints.{inUse, k3, k4, k9, k15, k16, k17, k25, constraintsBy, constraint, firstFailed, firstBroken}
+use lib.Dec.{eqb}
+use Rattle.model.specs.Columns.{Cells, emptyRow, table}
+use Rattle.model.specs.Constraints.{inUse, k3, k4, k9, k25, constraintsBy, firstFailed, firstBroken}
+use Rattle.model.specs.Cycles.{counts, Looked}
 use Rattle.model.specs.State.{contextOf}
-use Rattle.model.specs.Cycles.{counts}
 use Rattle.model.specs.Verdict.{rowBefore, before, brokenAt, judged, meet, verdictBy}
 use Rattle.model.proofs.JudgeLaws.{judged-stops}
-use Rattle.model.proofs.RowFacts.{of-within}
-use Rattle.model.proofs.TestFacts.{_&_}
 use Rattle.model.proofs.VerdictLaws.{judged-meet}
-use Rattle.rules.proofs.FirstLaws.{nine-matters-not}
-use Rattle.recent.specs.Notes.{Notes, recalled}
-use Rattle.recent.proofs.NoteLaws.{recalled-before}
-use Rattle.row.specs.Plain.{from}
-use Rattle.row.proofs.PlaceLaws.{from-row}
+use Rattle.state.specs.Look.{lookBack}
 use Rattle.state.proofs.LookLaws.{look-before}
+use Rattle.rules.proofs.FirstLaws.{nine-matters-not}
 use Rattle.count.specs.Counts.{plainCounts}
 use Rattle.count.specs.declared.Counts.{Counts}
 use Rattle.checker.specs.Answer.{told}
@@ -32,22 +24,21 @@ use Rattle.checker.specs.declared.Verdict.the-variants.{Accepted, Broken
 use Rattle.checker.proofs.StartLaws.{between, asked-where-starts, used-stamp}
 
 module _ (r : ℕ → Cells) (n : ℕ) where
-  module _ (notes : List ℕ) (i : ℕ) (meets : judged (brokenAt r n) i ≡ meet) (noted : Notes notes r i) where
-    -- on a row that meets 3 and 4, the answer to 9 that the notes give is that of the model's state
+  module _ (i : ℕ) (meets : judged (brokenAt r n) i ≡ meet) where
+    -- on a row that meets 3 and 4, the state that is looked up is the model's
     nine-is : k3 (eqb i 0) (rowBefore r i) (r i) ≡ true → k4 (rowBefore r i) (r i) ≡ true → inUse (r i) ≡ true
-        → asked r notes (rowBefore r i .stamp) i ≡ k9 (before r i (contextOf (r i))) (r i)
+        → asked r (rowBefore r i .stamp) i ≡ k9 (before r i (contextOf (r i))) (r i)
     unfolding asked
     nine-is h3 h4 u =
-        asked-where-starts (r i) (recalled r notes (contextOf (r i)) (rowBefore r i .stamp) i) (before r i (contextOf (r i))) u
-        (λ z. recalled-before noted (contextOf (r i)) (rowBefore r i .stamp)
-        (look-before r n (contextOf (r i)) i (judged-meet r n i .0 meets) (between r i (r i) h3 h4 (used-stamp (r i) u) z)))
+        asked-where-starts (r i) (lookBack r (contextOf (r i)) (rowBefore r i .stamp) i .state) (before r i (contextOf (r i))) u
+        (λ z. look-before r n (contextOf (r i)) i (judged-meet r n i .0 meets) (between r i (r i) h3 h4 (used-stamp (r i) u) z))
 
-    -- the first constraint that fails, with 9 asked of the notes, is the row's first broken one
-    pub broken-is : firstAt r n (asked r notes (rowBefore r i .stamp) i) i ≡ brokenAt r n i
+    -- the first constraint that fails, with 9 asked so, is the row's first broken one
+    pub broken-is : firstAt r n (rowBefore r i .stamp) i ≡ brokenAt r n i
     unfolding firstAt brokenAt firstBroken
     broken-is =
         rw (add-one i)
-        (nine-matters-not (rowBefore (rowBefore r) i) (rowBefore r i) (r i) (eqb i 0) (eqb (suc i) n) (asked r notes (rowBefore r i .stamp) i)
+        (nine-matters-not (rowBefore (rowBefore r) i) (rowBefore r i) (r i) (eqb i 0) (eqb (suc i) n) (asked r (rowBefore r i .stamp) i)
         (k9 (before r i (contextOf (r i))) (r i)) (k25 (r i)) nine-is)
 
   -- before the first row all rows meet the constraints
@@ -83,8 +74,9 @@ pub one-before : (r : ℕ → Cells) (i : ℕ) → i ≢ 0 → r (i - 1) ≡ row
 one-before r zero some = absurd (some refl)
 one-before r (suc i) some = ap r (omega arith)
 
--- the first constraint that row i breaks, by the three rows that are looked at and the answer to 25
-pub first-of-rows : (r : ℕ → Cells) (n i : ℕ) (nine twentyFive : Bool) (a b x : Cells) (k : ℕ) → a ≡ rowBefore (rowBefore r) i → b ≡ rowBefore r i → x ≡ r i
-    → twentyFive ≡ k25 x → k ≡ firstFailed 1 (constraintsBy a b x (eqb i 0) (eqb (i + 1) n) nine twentyFive) → k ≡ firstAt r n nine i
+-- the first constraint that row i breaks, by the three rows that are looked at and the answers to 9 and 25
+pub first-of-rows : (r : ℕ → Cells) (n cycles i : ℕ) (nine twentyFive : Bool) (a b x : Cells) (k : ℕ) → nine ≡ asked r cycles i
+    → a ≡ rowBefore (rowBefore r) i → b ≡ rowBefore r i → x ≡ r i → twentyFive ≡ k25 x
+    → k ≡ firstFailed 1 (constraintsBy a b x (eqb i 0) (eqb (i + 1) n) nine twentyFive) → k ≡ firstAt r n cycles i
 unfolding firstAt
-first-of-rows r n i nine twentyFive a b x k e f g h m = rw (← e, ← f, ← g, ← h) m
+first-of-rows r n cycles i nine twentyFive a b x k d e f g h m = rw (← d, ← e, ← f, ← g, ← h) m

@@ -7,6 +7,7 @@ use model::MAX_ROWS;
 use model::ROW_BYTES;
 use refusal::Refusal;
 
+mod cycles;
 mod judge;
 
 // What the checker answers: document 01's numbers for each case are `numbers` of specs/Answer.antt.
@@ -30,5 +31,5 @@ pub fn check(t: &[u8]) -> Verdict
     if MAX_ROWS < rows {
         return Verdict::Refused(refusal::too_many_rows());
     }
-    judge::verdict_on(t, rows)
+    cycles::verdict_on(t, rows)
 }

@@ -24,10 +24,9 @@ use Rattle.refusal.specs.declared.Refusal.{Refusal}
 use Rattle.claim.specs.Claims.{claimOf}
 use Rattle.claim.specs.Instruction.{Instruction}
 use Rattle.list.specs.List.{Listed, instructions, refusedIn, readList}
-use Rattle.lines.specs.Lines.{rowsOfClaims, Lists, claimsListed, listClaims}
-use Rattle.filler.specs.Fill.{maxList, written, refused, placed, filled, outcome, bufferAfter}
-use Rattle.filler.specs.Measured.{toldMeasured}
-use Rattle.filler.specs.declared.measure.Measured.the-variants as measured
+use Rattle.lines.specs.Lines.{maxList, rowsOfClaims, Lists, claimsListed, listClaims, toldMeasured}
+use Rattle.lines.specs.declared.Measured.the-variants as measured
+use Rattle.filler.specs.Fill.{written, refused, placed, filled, outcome, bufferAfter}
 
 -- ---- a text
 
@@ -59,15 +58,15 @@ module _ (t : List ℕ) (empty room : ℕ) where
           by (refusedIn n l at) e h = (n, l, outcome-read ∙ ap (filled empty room) e, cc)
 
       -- where it is a list, the trace of its claims is placed
-      pub outcome-lists : {lines : ℕ} → Lists t lines → outcome t empty room ≡ placed room (trace empty (listClaims t))
+      pub outcome-lists : Lists t → outcome t empty room ≡ placed room (trace empty (listClaims t))
       outcome-lists h = rw (outcome-read, h .read)
 
--- a text whose first reading counts lines is a list of so many, and its cycles have the rows that were counted
-pub measured-lists : (t : List ℕ) {k n : ℕ} → toldMeasured (readList 1 t) ≡ measured.Lines k n → Lists t k × (n ≡ rowsOfClaims (listClaims t))
-measured-lists t {k} {n} = by (readList 1 t) refl
+-- a text whose reading counts rows is a list, and its cycles have these rows
+pub measured-lists : (t : List ℕ) {n : ℕ} → toldMeasured (readList 1 t) ≡ measured.Rows n → Lists t × (n ≡ rowsOfClaims (listClaims t))
+measured-lists t {n} = by (readList 1 t) refl
   where
-    by : (x : Listed) → readList 1 t ≡ x → toldMeasured x ≡ measured.Lines k n → Lists t k × (n ≡ rowsOfClaims (claimsListed x))
-    by (instructions is) e h = (record { each = is; read = e; count = cc }, cc)
+    by : (x : Listed) → readList 1 t ≡ x → toldMeasured x ≡ measured.Rows n → Lists t × (n ≡ rowsOfClaims (claimsListed x))
+    by (instructions is) e h = (record { each = is; read = e }, cc)
     by (refusedIn m l at) e h = clash cc
 
 -- ---- rows for a buffer of so many bytes

@@ -1,4 +1,3 @@
 -- The laws and theorems of `filler` that belong to no one function.
-pub mod MeasureLaws
 pub mod FillLaws
 pub mod Theorems

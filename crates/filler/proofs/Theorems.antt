@@ -22,7 +22,8 @@ use Rattle.claim.specs.Paper.{Decodes, LineByPaper}
 use Rattle.claim.proofs.PaperLaws.{lines-by-paper}
 use Rattle.list.specs.List.{instructions, refusedIn, readList, LinesRoom, printLines}
 use Rattle.list.proofs.ListLaws.{list-of-lines, lines-of-list, list-valid}
-use Rattle.filler.specs.Fill.{maxList, written, refused, outcome, bufferAfter}
+use Rattle.lines.specs.Lines.{maxList}
+use Rattle.filler.specs.Fill.{written, refused, outcome, bufferAfter}
 use Rattle.filler.proofs.FillLaws.{outcome-long, outcome-none, outcome-read, placed-long, placed-short, placed-written, written-read}
 
 -- ---- what is written

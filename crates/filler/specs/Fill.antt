@@ -10,10 +10,7 @@ use Rattle.model.specs.Verdict.{maxRows}
 use Rattle.refusal.specs.Refusals.{listTooLong, noEmptyRow, fillTooLong, bufferShort}
 use Rattle.claim.specs.Claims.{claimOf}
 use Rattle.list.specs.List.{Listed, instructions, refusedIn, readList}
-
--- Limits: list 4,194,304 bytes.
-abbrev pub maxList : ℕ
-maxList = 4194304
+use Rattle.lines.specs.Lines.{maxList}
 
 -- what the filler does
 pub data Outcome : Type 0 where

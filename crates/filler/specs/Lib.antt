@@ -1,4 +1,3 @@
 -- The definitions of `filler`.
 pub mod Fill
-pub mod Measured
 pub mod Answer

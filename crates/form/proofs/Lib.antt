@@ -5,3 +5,6 @@ pub mod TextLaws
 pub mod ReadLaws
 pub mod FormLaws
 pub mod StepLaws
+pub mod NameLaws
+pub mod TableLaws
+pub mod RunLaws

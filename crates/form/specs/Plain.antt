@@ -1,14 +1,15 @@
--- What the readers' answers say.
-use Prim.Native.Nat.{ℕ}
+-- What a name is, and what the readers' answers say.
+use Prim.Native.Nat.{ℕ, _^_, _<_}
 use mathlib.Core.List.{List}
+use mathlib.Core.Path.{_≡_}
 use Rattle.long.specs.Halves.{whole}
-use Rattle.form.specs.Form as form
+use Rattle.cell.specs.Low.{le}
 use Rattle.form.specs.Read.{Read, got, stop, Run}
 use Rattle.form.specs.declared.Digits.{Digits}
-use Rattle.form.specs.declared.Kind.{Kind}
-use Rattle.form.specs.declared.Kind.the-variants as k
+use Rattle.form.specs.declared.Half.{Half}
 use Rattle.form.specs.declared.Matched.{Matched}
 use Rattle.form.specs.declared.Matched.the-variants as m
+use Rattle.form.specs.declared.Name.{Name}
 use Rattle.form.specs.declared.Number.{Number}
 use Rattle.form.specs.declared.Number.the-variants as n
 
@@ -16,23 +17,22 @@ use Rattle.form.specs.declared.Number.the-variants as n
 abbrev pub mostDigits : ℕ
 mostDigits = 32
 
--- how a number is written, and the most digits that it has then
-abbrev pub plainKind : Kind → form.Kind
-plainKind (k.UpTo n) = form.upTo n
-plainKind (k.Exactly n) = form.exactly n
+-- a name has at most 7 characters, and its bound is the first number of more
+abbrev pub Bounded : Name → Type 0
+Bounded n = (n .bound ≡ 256 ^ n .len) × (n .len < 8)
 
-abbrev pub digitsOf : Kind → ℕ
-digitsOf (k.UpTo n) = n
-digitsOf (k.Exactly n) = n
-
--- a name with a number behind it
-abbrev pub fieldOf : (name : List ℕ) → Kind → form.Field
-fieldOf name kind = record { name = name; kind = plainKind kind }
+-- the characters of a name
+abbrev pub nameText : Name → List ℕ
+nameText n = le (n .len) (n .number)
 
 -- given characters
 abbrev pub matched : Matched → Read Unit
 matched (m.To p) = got tt p
 matched (m.Stop p) = stop p
+
+-- a run of at most 16 digits
+abbrev pub halfRun : Half → Run
+halfRun h = record { value = h .value; next = h .next }
 
 -- a run of digits
 abbrev pub digitRun : Digits → Run

@@ -1,9 +1,9 @@
 -- Readers over a position of a text: each answers a value and the next position, or the position of the first character that cannot go on.
-use Prim.Native.Nat.{ℕ, zero, suc, _+_, _*_}
+use Prim.Native.Nat.{ℕ, zero, suc, _+_, _*_, min, max}
 use mathlib.Core.Bool.{Bool}
 use mathlib.Core.List.{List, [], _∷_}
 use lib.Dec.{eqb, ltb}
-use lib.ListN.{getD}
+use lib.ListN.{length, getD}
 use Rattle.number.specs.Tables.{every}
 use Rattle.number.specs.Tests.{pick}
 use Rattle.form.specs.Hex.{code-0, isDigit, digitOf}
@@ -44,6 +44,10 @@ pub record Run : Type 0 where
 unfoldable pub run : (n : ℕ) → (t : List ℕ) → (v p : ℕ) → Run
 run zero t v p = record { value = v; next = p }
 run (suc n) t v p = pick (isDigit (charAt t p)) (run n t (v * 16 + digitOf (charAt t p)) (suc p)) (record { value = v; next = p })
+
+-- where a run of at most so many digits from place p on ends at the latest
+abbrev pub lastPlace : (t : List ℕ) → (p most : ℕ) → ℕ
+lastPlace t p most = max p (min (length t) (p + most))
 
 -- a number in at least so many digits and at most so many: where there are too few, it stops at the character that is none
 unfoldable pub readDigits : (least most : ℕ) → (t : List ℕ) → (p : ℕ) → Read ℕ

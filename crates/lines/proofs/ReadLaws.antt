@@ -1,7 +1,6 @@
 -- A list that is read line by line: where the reading stands after some lines, what the next line makes of it, and the claim that the code makes of a line.
 use Prim.Native.Nat.{ℕ, suc, _+_, _-_, _≤_, _<_}
 use mathlib.Core.List.{List, [], _∷_, _++_, append-assoc, append-nil}
-use mathlib.Core.Logic.{_⊎_, inl, inr, ⊎-elim}
 use mathlib.Core.Path.{_≡_, refl, sym, _∙_, ap}
 use native.Mathlib.Nat.{sub-zero, suc-sub-suc}
 use native.Mathlib.Omega.{arith}
@@ -57,10 +56,6 @@ pub reached-start : (t : List ℕ) → Reached t [] 0 0
 unfolding readList
 reached-start t = record { list = rw sub-zero; count = refl; ahead = omega arith; inside = omega arith }
 
--- after the instructions that were read, the list `each` goes on: with an instruction, whose line ends before place q, and the rest
-abbrev pub Comes : (t : List ℕ) → (done each : List Instruction) → (at : ℕ) → Type 0
-Comes t done each at = (i : Instruction) × (q : ℕ) × (rest : List Instruction) × (nextLine t at ≡ list.one i q) × (each ≡ done ++ (i ∷ rest))
-
 -- one instruction more, before a list
 snoc-before : (done : List Instruction) (i : Instruction) (x : Listed) → beforeAll (done ++ (i ∷ [])) x ≡ beforeAll done (before i x)
 snoc-before [] i x = refl
@@ -109,25 +104,18 @@ module _ {t : List ℕ} {done : List Instruction} {k at : ℕ} (r : Reached t do
         let all = sym whole ∙ e ∙ all-refused (done ++ (i ∷ [])) in
         clash cc
 
-    reached-cases : (done ≡ each) ⊎ Comes t done each at
-    reached-cases = by (nextLine t at) refl
-      where
-        by : (x : list.Next) → nextLine t at ≡ x → (done ≡ each) ⊎ Comes t done each at
-        by list.end e =
-            let all = sym whole ∙ reached-end e in
-            inl cc
-        by (list.one i q) e =
-            let rest = rest-of i (left t (suc k) q) (left-next e) in
-            inr (i, q, rest .0, e, rest .1)
-        by (list.refused n q) e =
-            let all = sym whole ∙ reached-refused e in
-            clash cc
+    -- where the next line is an instruction, the list goes on with it
+    pub reached-one : {i : Instruction} {q : ℕ} → nextLine t at ≡ list.one i q → (rest : List Instruction) × (each ≡ done ++ (i ∷ rest))
+    reached-one {i} {q} e = rest-of i (left t (suc k) q) (left-next e)
 
-    -- where fewer lines were read than the list has, its next instruction comes next
-    pub reached-more : k < length each → Comes t done each at
-    reached-more h = ⊎-elim (λ e. absurd (omega (arith, ap length e, r .count))) (λ m. m) reached-cases
+    -- where it ends, its instructions are those that were read
+    pub reached-all : nextLine t at ≡ list.end → done ≡ each
+    reached-all e =
+        let all = sym whole ∙ reached-end e in
+        cc
 
-    -- where as many were read, they are all of them
-    pub reached-all : k ≡ length each → done ≡ each
-    reached-all h =
-        ⊎-elim (λ e. e) (λ m. absurd (omega (arith, ap length (m .4), length-append done (m .0 ∷ m .2), r .count))) reached-cases
+    -- and no line of it is refused
+    pub reached-right : {n q : ℕ} → nextLine t at ≡ list.refused n q → ⊥
+    reached-right e =
+        let all = sym whole ∙ reached-refused e in
+        clash cc

@@ -1,4 +1,4 @@
--- The trace of claims, with notes on its rows: what one claim more adds to them, and that the state recalled by them is the one that the claims leave.
+-- The trace of claims, and what is known of its rows: what one claim more adds to it, and that the state recalled by it is the one that the claims leave.
 use Prim.Native.Nat.{ℕ, suc, _+_, _<_, _≤_}
 use mathlib.Core.List.{List, [], _∷_, _++_, append-nil}
 use mathlib.Core.Path.{_≡_, sym, _∙_, ap}
@@ -22,19 +22,19 @@ use Rattle.model.proofs.TableOf.{getD-table, table-of-list}
 use Rattle.model.proofs.TraceMeets.{trace-holds}
 use Rattle.model.proofs.VerdictLaws.{before-local}
 use Rattle.state.proofs.AfterLaws.{Stand, look-after}
-use Rattle.recent.specs.Notes.{slots, slotOf, Notes, recalled}
-use Rattle.recent.proofs.NoteLaws.{Run, notes-none, notes-same, notes-run, recalled-before}
+use Rattle.recent.specs.Notes.{slots, slotOf, Span, noSpan, wider, Known, recalled}
+use Rattle.recent.proofs.NoteLaws.{Run, known-none, known-same, known-run, recalled-before}
 
 -- a row of the trace of claims behind n empty rows, by its number
 abbrev pub traceRow : (n : ℕ) → List Claim → ℕ → Cells
 traceRow n cs = rowIn (trace n cs)
 
--- ---- the notes
+-- ---- what is known
 
--- nothing is noted of empty rows
-pub notes-empty : (n : ℕ) → Notes (replicate slots 0) (traceRow n []) n
+-- nothing is known of empty rows
+pub known-empty : (n : ℕ) → Known (replicate slots 0) noSpan (traceRow n []) n
 unfolding trace cyclesOf inUse
-notes-empty n = notes-none (traceRow n []) n (λ j h. rw (append-nil, getD-replicate n j emptyRow emptyRow h))
+known-empty n = known-none noSpan (traceRow n []) n (λ j h. rw (append-nil, getD-replicate n j emptyRow emptyRow h))
 
 module _ (n : ℕ) (cs : List Claim) (c : Claim) where
   abbrev first : ℕ
@@ -54,10 +54,10 @@ module _ (n : ℕ) (cs : List Claim) (c : Claim) where
       let x = is-row (suc (length cs)) (afterClaims fresh cs (c .context)) c j in
       rw (row-of-cycle j h) (in-use _ (λ e. suc-ne-zero (length cs) (sym (x .stamp) ∙ e)), x .context)
 
-  -- with the rows of one claim more, the last of them is noted
-  pub notes-claim : {l : List ℕ} → Notes l (traceRow n cs) first
-      → Notes (set l (slotOf (c .context)) (first + suc (lastOf c))) (traceRow n (cs ++ (c ∷ []))) (first + suc (lastOf c))
-  notes-claim noted = notes-run (notes-same noted (traceRow n (cs ++ (c ∷ []))) rows-before) (c .context) (lastOf c) cycle-run
+  -- with the rows of one claim more, the last of them is noted and its context is in the span
+  pub known-claim : {l : List ℕ} {s : Span} → 0 < first → Known l s (traceRow n cs) first
+      → Known (set l (slotOf (c .context)) (first + lastOf c)) (wider s (c .context)) (traceRow n (cs ++ (c ∷ []))) (first + suc (lastOf c))
+  known-claim some known = known-run (known-same known (traceRow n (cs ++ (c ∷ []))) rows-before) some (c .context) (lastOf c) cycle-run
 
 -- ---- the state
 
@@ -79,10 +79,10 @@ module _ (n : ℕ) (cs : List Claim) (some : 0 < n) (valid : Valid cs) where
         ∙ rw length-replicate at (getD-append-add (replicate n emptyRow) (cyclesOf 1 fresh cs) j emptyRow)
 
     -- where the rows are those of the trace, it is the state that the claims leave, with their number as the limit
-    pub recalled-after : {l : List ℕ} → Notes l (traceRow n cs) (length rows) → (x : Context)
-        → recalled r l x (length cs) (length rows) ≡ afterClaims fresh cs x
-    recalled-after noted x =
+    pub recalled-after : {l : List ℕ} {s : Span} → Known l s (traceRow n cs) (length rows) → (x : Context)
+        → recalled r l s x (length cs) (length rows) ≡ afterClaims fresh cs x
+    recalled-after known x =
         let states : before r (length rows) x ≡ afterClaims fresh cs x =
         ap (λ (s : Context → State). s x) (before-local r (traceRow n cs) (length rows) there) ∙ before-behind x in
         let looks = rw (← length-trace n cs) at (look-after r x n cs cycles-stand) in
-        recalled-before (notes-same noted r there) x (length cs) (looks ∙ sym states) ∙ states
+        recalled-before (known-same known r there) x (length cs) (looks ∙ sym states) ∙ states

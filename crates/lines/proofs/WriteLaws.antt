@@ -1,8 +1,10 @@
 -- What is written turn by turn: zeros, and the cycles of a list.
 use Prim.Native.Nat.{ℕ, suc, _+_, _-_, _*_, _<_, _≤_}
+use mathlib.Core.Bool.{Bool, true, false}
 use mathlib.Core.List.{List, [], _∷_, _++_, map, map-append}
 use mathlib.Core.Path.{_≡_, refl, sym, _∙_, ap, ap₂, subst}
 use native.Mathlib.Nat.{zero-add, add-zero}
+use native.Mathlib.Numerals.{add-one}
 use native.Mathlib.Omega.{arith}
 use lib.ListN.{length, set, replicate, take, drop, length-append, length-map, length-replicate, replicate-append-replicate}
 use lib.Seq.{sets, sets-eq, length-sets, take-append-seam}
@@ -22,20 +24,22 @@ use Rattle.model.proofs.RowBytes.{AllFit, length-bytes, bytes-append, row-betwe
 use Rattle.model.proofs.StateLaws.{all-sound-fresh}
 use Rattle.row.proofs.RowLaws.{write-more}
 use Rattle.state.specs.Plain.{context}
-use Rattle.recent.specs.Notes.{slots, slotOf, Notes, recalled}
-use Rattle.recent.proofs.NoteLaws.{notes-same}
+use Rattle.recent.specs.Notes.{slots, slotOf, Span, noSpan, wider, Known, recalled}
+use Rattle.recent.proofs.NoteLaws.{known-same}
+use Rattle.refusal.specs.declared.Refusal.{Refusal}
 use Rattle.claim.specs.Claims.{claimOf}
 use Rattle.claim.specs.Instruction.{Instruction}
 use Rattle.claim.specs.Told.{toldInstruction, plainInstruction, toldClaim, plainClaim}
 use Rattle.claim.specs.declared.claim.Claim as held
 use Rattle.claim.specs.declared.instruction.Instruction as code
-use Rattle.list.specs.List.{Next, one, nextLine}
+use Rattle.list.specs.List.{one, nextLine}
 use Rattle.list.specs.Told.{toldNext}
-use Rattle.list.specs.declared.Next.the-variants.{One}
+use Rattle.list.specs.declared.Next.the-variants as next
 use Rattle.list.proofs.ListLaws.{list-valid}
-use Rattle.lines.specs.Lines.{rowsOfClaims, Lists, claimsListed, listClaims}
-use Rattle.lines.proofs.ReadLaws.{claim-told, rows-snoc, Comes, Reached, reached-start, reached-next, reached-more, reached-all}
-use Rattle.lines.proofs.RecallLaws.{traceRow, notes-empty, notes-claim, recalled-after}
+use Rattle.lines.specs.Lines.{rowsOfClaims, Lists, claimsListed, listClaims, Writable, NextWritable, cyclesWritten}
+use Rattle.lines.proofs.CountLaws.{told-end, told-one, told-refused, Counted, More, counted-start}
+use Rattle.lines.proofs.ReadLaws.{claim-told, rows-snoc, Reached, reached-start, reached-next, reached-one, reached-all, reached-right}
+use Rattle.lines.proofs.RecallLaws.{traceRow, known-empty, known-claim, recalled-after}
 
 -- ---- zeros
 
@@ -68,162 +72,192 @@ read-trace {buf} l n cs empty bytes fit room j h =
 
 -- ---- the cycles of a list
 
--- k lines of the text t were read, up to the place `at`, and the cycles of their instructions are written from row `first` up to row `row`, behind empty rows
--- and with notes on all of them; the other bytes are those of l
-pub record Filling (t l buf notes : List ℕ) (first at row k : ℕ) : Type 0 where
+-- k lines of the text t were read, up to the place `at`, and the cycles of their instructions are written from row `first` up to row `row`, behind empty rows;
+-- what is known of all of them is known; the other bytes are those of l
+pub record Filling (t l buf notes : List ℕ) (s : Span) (first at row k : ℕ) : Type 0 where
   pub done : List Instruction
   pub reached : Reached t done k at
   pub rows : row ≡ first + rowsOfClaims (map claimOf done)
   pub bytes : buf ≡ sets l (first * rowBytes) (bytesOf (cyclesOf 1 fresh (map claimOf done)))
-  pub noted : Notes notes (traceRow first (map claimOf done)) row
+  pub known : Known notes s (traceRow first (map claimOf done)) row
 
 -- before the first line nothing is written and nothing noted
-pub filling-first : (t l : List ℕ) (first : ℕ) → Filling t l l (replicate slots 0) first 0 first 0
+pub filling-first : (t l : List ℕ) (first : ℕ) → Filling t l l (replicate slots 0) noSpan first 0 first 0
 unfolding cyclesOf bytesOf
-filling-first t l first = record { done = []; reached = reached-start t; rows = sym (add-zero first); bytes = refl; noted = notes-empty first }
+filling-first t l first = record { done = []; reached = reached-start t; rows = sym (add-zero first); bytes = refl; known = known-empty first }
 
--- there are as many bytes as before
-pub length-kept : {t l buf notes : List ℕ} {first at row k : ℕ} → Filling t l buf notes first at row k → length buf ≡ length l
-length-kept {l = l} {first = first} f = ap length (f .bytes) ∙ length-sets l (first * rowBytes) (bytesOf (cyclesOf 1 fresh (map claimOf (f .done))))
-
-claims-each : {t : List ℕ} {lines : ℕ} (lists : Lists t lines) → listClaims t ≡ map claimOf (lists .each)
+claims-each : {t : List ℕ} (lists : Lists t) → listClaims t ≡ map claimOf (lists .each)
 claims-each lists = ap claimsListed (lists .read)
 
-module _ {t l buf notes : List ℕ} {first lines at row k : ℕ} (lists : Lists t lines) (f : Filling t l buf notes first at row k) where
-  -- after the last line the cycles of all of them are written
-  pub filling-all : k ≡ lines → buf ≡ sets l (first * rowBytes) (bytesOf (cyclesOf 1 fresh (listClaims t)))
-  filling-all e =
-      let same : f .done ≡ lists .each = reached-all (f .reached) (lists .read) (e ∙ lists .count) in
+module _ {t l buf notes : List ℕ} {s : Span} {first at row k : ℕ} (lists : Lists t) (f : Filling t l buf notes s first at row k) where
+  -- behind the last line the cycles of all of them are written
+  pub filling-end : (n : ℕ) → toldNext n (nextLine t at) ≡ next.End → buf ≡ sets l (first * rowBytes) (bytesOf (cyclesOf 1 fresh (listClaims t)))
+  filling-end n e =
+      let same : f .done ≡ lists .each = reached-all (f .reached) (lists .read) (told-end n _ e) in
       rw (claims-each lists, ← same) (f .bytes)
 
-  more-lines : k < lines → Comes t (f .done) (lists .each) at
-  more-lines less = reached-more (f .reached) (lists .read) (rw (lists .count) at less)
+  -- and no line is refused
+  pub filling-right : (n : ℕ) {w : Refusal} {q : ℕ} → toldNext n (nextLine t at) ≡ next.Refused w q → ⊥
+  filling-right n e = reached-right (f .reached) (lists .read) (told-refused n _ e .1)
 
-  -- before it, the next line is an instruction
-  pub filling-line : k < lines → (i : code.Instruction) × (q : ℕ) × (toldNext (k + 1) (nextLine t at) ≡ One i q)
-  filling-line less =
-      let more = more-lines less in
-      (toldInstruction (more .0), more .1, ap (toldNext (k + 1)) (more .3))
-
--- what the code holds of a line that is this instruction
-told-same : (l : ℕ) (x : Next) {i : code.Instruction} {j : Instruction} {q r : ℕ} → x ≡ one j r → toldNext l x ≡ One i q
-    → (i ≡ toldInstruction j) × (q ≡ r)
-told-same l x {i} {j} {q} {r} e told =
-    let same : One (toldInstruction j) r ≡ One i q = rw e at told in
-    (cc, cc)
-
--- one turn: lines are left of a list whose rows are no more than a trace may have and have room in l, behind the empty rows there; the code holds the next
--- line as the instruction i and the place q after it, and its claim as c
-pub record Turn (t l buf notes : List ℕ) (first lines at row k q : ℕ) (i : code.Instruction) (c : held.Claim) : Type 0 where
-  pub lists : Lists t lines
-  pub some : 0 < first
-  pub empty : take (first * rowBytes) l ≡ bytesOf (replicate first emptyRow)
-  pub few : first + rowsOfClaims (listClaims t) ≤ maxRows
-  pub room : (first + rowsOfClaims (listClaims t)) * rowBytes ≤ length l
-  pub filling : Filling t l buf notes first at row k
-  pub less : k < lines
-  pub told : toldNext (k + 1) (nextLine t at) ≡ One i q
+-- one turn: the cycles of the list may be written, and the code holds the next line as the instruction i and the place q after it, and its claim as c
+pub record Turn (t l buf notes : List ℕ) (s : Span) (first at row k q : ℕ) (i : code.Instruction) (c : held.Claim) : Type 0 where
+  pub writable : Writable t l first
+  pub filling : Filling t l buf notes s first at row k
+  pub told : toldNext (k + 1) (nextLine t at) ≡ next.One i q
   pub made : c ≡ toldClaim (claimOf (plainInstruction i))
 
-module _ {t l buf notes : List ℕ} {first lines at row k q : ℕ} {i : code.Instruction} {c : held.Claim}
-    (turn : Turn t l buf notes first lines at row k q i c) where
-  abbrev f : Filling t l buf notes first at row k
+module _ {t l buf notes : List ℕ} {s : Span} {first at row k q : ℕ} {i : code.Instruction} {c : held.Claim}
+    (turn : Turn t l buf notes s first at row k q i c) where
+  abbrev f : Filling t l buf notes s first at row k
   f = turn .filling
+
+  abbrev w : Writable t l first
+  w = turn .writable
 
   abbrev claims : List Claim
   claims = map claimOf (f .done)
 
-  more : Comes t (f .done) (turn .lists .each) at
-  more = more-lines (turn .lists) f (turn .less)
+  line : (j : Instruction) × (nextLine t at ≡ one j q) × (i ≡ toldInstruction j)
+  line = told-one (k + 1) (nextLine t at) (turn .told)
 
-  abbrev next : Claim
-  next = claimOf (more .0)
+  more : (rest : List Instruction) × (w .lists .each ≡ f .done ++ (line .0 ∷ rest))
+  more = reached-one (f .reached) (w .lists .read) (line .1)
+
+  abbrev new : Claim
+  new = claimOf (line .0)
 
   abbrev later : List Claim
-  later = map claimOf (more .2)
+  later = map claimOf (more .0)
 
   count-is : k ≡ length claims
   count-is = f .reached .count ∙ sym (length-map (f .done) claimOf)
 
-  held-is : (i ≡ toldInstruction (more .0)) × (q ≡ more .1)
-  held-is = told-same (k + 1) (nextLine t at) (more .3) (turn .told)
+  own : plainClaim c ≡ new
+  own = claim-told (line .0) (line .2) (turn .made)
 
-  own : plainClaim c ≡ next
-  own = claim-told (more .0) (held-is .0) (turn .made)
+  claims-parts : listClaims t ≡ claims ++ (new ∷ later)
+  claims-parts = claims-each (w .lists) ∙ ap (map claimOf) (more .1) ∙ map-append claimOf (f .done) (line .0 ∷ more .0)
 
-  claims-parts : listClaims t ≡ claims ++ (next ∷ later)
-  claims-parts = claims-each (turn .lists) ∙ ap (map claimOf) (more .4) ∙ map-append claimOf (f .done) (more .0 ∷ more .2)
-
-  rows-there : rowsOfClaims claims + suc (lastOf next) ≤ rowsOfClaims (listClaims t)
-  rows-there = rw claims-parts (rows-first claims later next)
+  rows-there : rowsOfClaims claims + suc (lastOf new) ≤ rowsOfClaims (listClaims t)
+  rows-there = rw claims-parts (rows-first claims later new)
 
   valid : Valid claims
   valid =
-      let all : Valid (listClaims t) = rw (claims-each (turn .lists)) (list-valid 1 t (turn .lists .each) (turn .lists .read)) in
-      valid-first claims (next ∷ later) (rw claims-parts at all)
+      let all : Valid (listClaims t) = rw (claims-each (w .lists)) (list-valid 1 t (w .lists .each) (w .lists .read)) in
+      valid-first claims (new ∷ later) (rw claims-parts at all)
 
   row-is : row ≡ length (trace first claims)
   row-is = f .rows ∙ sym (length-trace first claims)
 
   few-claims : k < maxRows
-  few-claims = omega (arith, count-is, claims-le first claims, row-is, f .rows, turn .few, rows-there)
+  few-claims = omega (arith, count-is, claims-le first claims, row-is, f .rows, w .few, rows-there)
 
   -- the rows before this one are those of the trace
   there : (j : ℕ) → j < length (trace first claims) → rowAt buf j ≡ traceRow first claims j
   there =
       let fit = trace-fits first claims valid (omega (arith, count-is, few-claims)) in
-      read-trace l first claims (turn .empty) (f .bytes) fit (omega (arith, turn .room, rows-there))
+      read-trace l first claims (w .empty) (f .bytes) fit (omega (arith, w .room, rows-there))
 
-  noted-there : Notes notes (traceRow first claims) (length (trace first claims))
-  noted-there = subst (Notes notes (traceRow first claims)) row-is (f .noted)
+  known-there : Known notes s (traceRow first claims) (length (trace first claims))
+  known-there = subst (Known notes s (traceRow first claims)) row-is (f .known)
 
   -- the state that is recalled is the one after the claims
-  recalls : (x : Context) → recalled (rowAt buf) notes x k row ≡ afterClaims fresh claims x
+  recalls : (x : Context) → recalled (rowAt buf) notes s x k row ≡ afterClaims fresh claims x
   recalls x =
-      ap₂ (recalled (rowAt buf) notes x) count-is row-is ∙ recalled-after first claims (turn .some) valid there noted-there x
+      ap₂ (recalled (rowAt buf) notes s x) count-is row-is ∙ recalled-after first claims (w .some) valid there known-there x
 
-  -- with the next cycle there are no more rows than a trace may have
-  pub rows-within : row + suc (lastOf (plainClaim c)) ≤ maxRows
-  rows-within = omega (arith, turn .few, rows-there, ap lastOf own, f .rows)
+  -- its cycle may be written next
+  pub turn-writable : NextWritable buf notes s row k (plainClaim c)
+  turn-writable = record {
+    room =
+        omega (arith, w .room, rows-there, ap lastOf own, ap length (f .bytes), length-sets l (first * rowBytes) (bytesOf (cyclesOf 1 fresh claims)), f .rows);
+    few = omega (arith, w .few, rows-there, ap lastOf own, f .rows);
+    before = few-claims;
+    known = known-same (f .known) (rowAt buf) (λ j h. there j (omega (arith, row-is)));
+    sound = rw (recalls (context (c .context))) (all-sound-claims fresh claims all-sound-fresh (context (c .context)));
+  }
 
-  -- there is room for it, there are fewer cycles than a trace may have rows, the notes are those on the rows before, and the recalled state is sound
-  pub next-asked : ((row + suc (lastOf (plainClaim c))) * rowBytes ≤ length buf)
-      × ((k < maxRows) × (Notes notes (rowAt buf) row × Sound (recalled (rowAt buf) notes (context (c .context)) k row)))
-  next-asked = (
-    omega (arith, turn .room, rows-there, ap lastOf own, length-kept f, f .rows),
-    (
-      few-claims,
-      (
-        notes-same (f .noted) (rowAt buf) (λ j h. there j (omega (arith, row-is))),
-        rw (recalls (context (c .context))) (all-sound-claims fresh claims all-sound-fresh (context (c .context))),
-      ),
-    ),
-  )
-
-  cycle-is : cycleOf (suc k) (recalled (rowAt buf) notes (context (c .context)) k row) (plainClaim c) ≡ cycleAfter claims next
+  cycle-is : cycleOf (suc k) (recalled (rowAt buf) notes s (context (c .context)) k row) (plainClaim c) ≡ cycleAfter claims new
   cycle-is =
-      ap (λ (s : State). cycleOf (suc k) s (plainClaim c)) (recalls (context (c .context)))
+      ap (λ (x : State). cycleOf (suc k) x (plainClaim c)) (recalls (context (c .context)))
       ∙ ap (λ (d : Claim). cycleOf (suc k) (afterClaims fresh claims (d .context)) d) own
-      ∙ ap (λ (n : ℕ). cycleOf (suc n) (afterClaims fresh claims (next .context)) next) count-is
+      ∙ ap (λ (n : ℕ). cycleOf (suc n) (afterClaims fresh claims (new .context)) new) count-is
 
   -- once it is written at that state and the last of its n rows is noted, one line more was read and its cycle written
-  pub filling-next : {m noted : List ℕ} {n : ℕ} → n ≡ suc (lastOf (plainClaim c))
-      → m ≡ sets buf (row * rowBytes) (bytesOf (cycleOf (suc k) (recalled (rowAt buf) notes (context (c .context)) k row) (plainClaim c)))
-      → noted ≡ set notes (slotOf (context (c .context))) (suc (row + n - 1)) → Filling t l m noted first q (row + n) (suc k)
+  pub filling-next : {m noted : List ℕ} {u : Span} {n : ℕ} → n ≡ suc (lastOf (plainClaim c))
+      → m ≡ sets buf (row * rowBytes) (bytesOf (cycleOf (suc k) (recalled (rowAt buf) notes s (context (c .context)) k row) (plainClaim c)))
+      → noted ≡ set notes (slotOf (context (c .context))) (row + lastOf (plainClaim c)) → u ≡ wider s (context (c .context))
+      → Filling t l m noted u first q (row + n) (suc k)
   unfolding trace
-  filling-next {m} {noted} {n} count e g =
-      let with : map claimOf (f .done ++ (more .0 ∷ [])) ≡ claims ++ (next ∷ []) = map-append claimOf (f .done) (more .0 ∷ []) in
-      let rows : cyclesOf 1 fresh (claims ++ (next ∷ [])) ≡ cyclesOf 1 fresh claims ++ cycleAfter claims next = trace-snoc 0 claims next in
-      let written : m ≡ sets buf ((first + rowsOfClaims claims) * rowBytes) (bytesOf (cycleAfter claims next)) =
+  filling-next {m} {noted} {u} {n} count e g h =
+      let with : map claimOf (f .done ++ (line .0 ∷ [])) ≡ claims ++ (new ∷ []) = map-append claimOf (f .done) (line .0 ∷ []) in
+      let rows : cyclesOf 1 fresh (claims ++ (new ∷ [])) ≡ cyclesOf 1 fresh claims ++ cycleAfter claims new = trace-snoc 0 claims new in
+      let written : m ≡ sets buf ((first + rowsOfClaims claims) * rowBytes) (bytesOf (cycleAfter claims new)) =
       e ∙ ap₂ (λ (p : ℕ) (xs : List Cells). sets buf (p * rowBytes) (bytesOf xs)) (f .rows) cycle-is in
-      let end : row + n ≡ length (trace first claims) + suc (lastOf next) = omega (arith, row-is, count, ap lastOf own) in
-      let last : suc (row + n - 1) ≡ length (trace first claims) + suc (lastOf next) = omega (arith, end) in
-      let latest : noted ≡ set notes (slotOf (next .context)) (length (trace first claims) + suc (lastOf next)) =
-      g ∙ ap₂ (λ (d : Claim) (p : ℕ). set notes (slotOf (d .context)) p) own last in
+      let end : row + n ≡ length (trace first claims) + suc (lastOf new) = omega (arith, row-is, count, ap lastOf own) in
+      let latest : noted ≡ set notes (slotOf (new .context)) (length (trace first claims) + lastOf new) =
+      g ∙ ap₂ (λ (d : Claim) (p : ℕ). set notes (slotOf (d .context)) (p + lastOf d)) own row-is in
+      let wide : u ≡ wider s (new .context) = h ∙ ap (λ (d : Claim). wider s (d .context)) own in
       record {
-        done = f .done ++ (more .0 ∷ []);
-        reached = reached-next (f .reached) (more .3 ∙ ap (one (more .0)) (sym (held-is .1))) .0;
-        rows = rw (with, rows-snoc claims next) (omega (arith, f .rows, count, ap lastOf own));
-        bytes = rw (with, rows) (write-more l first (rowsOfClaims claims) (cyclesOf 1 fresh claims) (cycleAfter claims next) refl (f .bytes) written);
-        noted = rw (with, latest, end) (notes-claim first claims next noted-there);
+        done = f .done ++ (line .0 ∷ []);
+        reached = reached-next (f .reached) (line .1) .0;
+        rows = rw (with, rows-snoc claims new) (omega (arith, f .rows, count, ap lastOf own));
+        bytes = rw (with, rows) (write-more l first (rowsOfClaims claims) (cyclesOf 1 fresh claims) (cycleAfter claims new) refl (f .bytes) written);
+        known = rw (with, latest, wide, end) (known-claim first claims new (omega (arith, row-is, f .rows, w .some)) known-there);
+      }
+
+-- ---- both readings
+
+-- k lines were read, up to the place `at`, and the rows of their cycles counted; the cycles are written where they are to be, and else nothing is
+pub record Passing (writes : Bool) (t l buf notes : List ℕ) (s : Span) (first at row k : ℕ) : Type 0 where
+  pub counted : Counted t at k (row - first)
+  pub ahead : first ≤ row
+  pub filling : writes ≡ true → Filling t l buf notes s first at row k
+  pub kept : writes ≡ false → buf ≡ l
+
+pub passing-first : (writes : Bool) (t l : List ℕ) (first : ℕ) → Passing writes t l l (replicate slots 0) noSpan first 0 first 0
+passing-first writes t l first =
+    let none : first - first ≡ 0 = omega arith in
+    record { counted = rw none (counted-start t); ahead = omega arith; filling = λ e. filling-first t l first; kept = λ e. refl }
+
+module _ {writes : Bool} {t l buf notes : List ℕ} {s : Span} {first at row k : ℕ} (p : Passing writes t l buf notes s first at row k) where
+  -- there are as many bytes as before
+  pub length-kept : length buf ≡ length l
+  length-kept = by writes refl
+    where
+      by : (w : Bool) → writes ≡ w → length buf ≡ length l
+      by true e =
+          let f = p .filling e in
+          ap length (f .bytes) ∙ length-sets l (first * rowBytes) (bytesOf (cyclesOf 1 fresh (map claimOf (f .done))))
+      by false e = ap length (p .kept e)
+
+  module _ (asked : writes ≡ true → Writable t l first) where
+    -- behind the last line the cycles of all of them are written, where they are to be
+    pub passing-end : (n : ℕ) → toldNext n (nextLine t at) ≡ next.End → buf ≡ cyclesWritten writes first (listClaims t) l
+    passing-end n e = by writes refl
+      where
+        by : (w : Bool) → writes ≡ w → buf ≡ cyclesWritten writes first (listClaims t) l
+        by true h = rw h (filling-end (asked h .lists) (p .filling h) n e)
+        by false h = rw h (p .kept h)
+
+    -- a list with a line that is refused is not to be written
+    pub passing-refused : (n : ℕ) {w : Refusal} {q : ℕ} → toldNext n (nextLine t at) ≡ next.Refused w q → buf ≡ cyclesWritten writes first (listClaims t) l
+    passing-refused n e = by writes refl
+      where
+        by : (w : Bool) → writes ≡ w → buf ≡ cyclesWritten writes first (listClaims t) l
+        by true h = absurd (filling-right (asked h .lists) (p .filling h) n e)
+        by false h = rw h (p .kept h)
+
+  -- one line more, whose cycle is written where it is to be
+  pub passing-next : {q : ℕ} {m noted : List ℕ} {u : Span} {n : ℕ}
+      → More t at k (row - first) q n → (writes ≡ true → Filling t l m noted u first q (row + n) (suc k)) → (writes ≡ false → m ≡ buf)
+      → Passing writes t l m noted u first q (row + n) (k + 1)
+  passing-next {n = n} more filled same =
+      let there : row + n - first ≡ row - first + n = omega (arith, p .ahead) in
+      record {
+        counted = rw there (more .counted);
+        ahead = omega (arith, p .ahead);
+        filling = λ e. rw add-one (filled e);
+        kept = λ e. same e ∙ p .kept e;
       }

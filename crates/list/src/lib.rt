@@ -1,5 +1,6 @@
 // The list reader: from the text of a list to its instructions, line by line.
 ghost use mathlib.Core.Path.{_≡_};
+ghost use Rattle.form.specs.Table.{digitTable};
 ghost use Rattle.list.specs.List.{nextLine};
 ghost use Rattle.list.specs.Told.{toldNext};
 use claim::instruction::Decoded;
@@ -27,14 +28,16 @@ pub enum Next {
     },
 }
 
-// What stands in the list t at place p; a refusal gets this line number. Every text and place has an answer.
-pub fn next_line(t: &[u8], p: usize, number: u64) -> Next
+// What stands in the list t at place p; a refusal gets this line number. Every text and place has an answer. Only crates of this repository call it: d is
+// the table of digits (`form::digit_table`), which the caller makes once for all lines.
+pub fn next_line(d: &[u8; 256], t: &[u8], p: usize, number: u64) -> Next
+    requires { ⌜ now d ≡ digitTable ⌝ }
     ensures { λ r. ⌜ r ≡ toldNext number (nextLine (now (t .entry)) p) ⌝ }
 {
     if t.len() <= p {
         return Next::End;
     }
-    let line = read_line(t, p);
+    let line = read_line(d, t, p);
     match line {
         Line::Stop(at) => Next::Refused {
             why: refusal::not_of_form(number),

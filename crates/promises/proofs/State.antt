@@ -7,6 +7,7 @@ use Rattle.state.specs.Plain.{toldLooked}
 use Rattle.promises.proofs.NoSecond.{NoSecond, no-second, equation, given, ref, answer}
 use Rattle.state.proofs.context_of.Reads as context-of
 use Rattle.state.proofs.same_context.Reads as same-context
+use Rattle.state.proofs.is_lower.Reads as is-lower
 use Rattle.state.proofs.start_state.Reads as start-state
 use Rattle.state.proofs.look.cycle_rows_at.Reads as cycle-rows-at
 use Rattle.state.proofs.look.context_at.Reads as context-at
@@ -17,7 +18,7 @@ use Rattle.state.proofs.look.state_found.Reads as state-found
 use Rattle.state.proofs.look.state_before.Reads as state-before
 
 -- the code's context and state from those of the model
-abbrev codeContext : model.Context → Context
+abbrev pub codeContext : model.Context → Context
 codeContext x = record { cn = x .cn }
 
 abbrev pub codeState : model.State → State
@@ -29,6 +30,9 @@ one-context-of = no-second _ (λ κ a v e p. ap codeContext p) (λ a b. refl)
 
 pub one-same-context : NoSecond same-context.Post given answer
 one-same-context = equation (λ a b. refl)
+
+pub one-is-lower : NoSecond is-lower.Post given answer
+one-is-lower = equation (λ a b. refl)
 
 pub one-start-state : NoSecond start-state.Post given answer
 one-start-state = no-second (λ a. codeState model.start) (λ κ a v e p. ap codeState p) (λ a b. refl)

@@ -1,9 +1,10 @@
--- The notes row by row, and the state that they show: where the look-up answers the model's state before the row, it is that state.
-use Prim.Native.Nat.{ℕ, zero, suc, _+_, _-_, _%_, _≤_, _<_}
-use mathlib.Core.Bool.{Bool, true, false, _&&_}
+-- What is known of the rows, row by row, and the state that it shows: where the look-up answers the model's state before the row, it is that state.
+use Prim.Native.Nat.{ℕ, zero, suc, _+_, _-_, _≤_, _<_}
+use mathlib.Core.Bool.{Bool, true, false, false≢true, _&&_, _||_}
 use mathlib.Core.List.{List}
 use mathlib.Core.Logic.{_≢_}
 use mathlib.Core.Path.{_≡_, refl, sym, _∙_, ap}
+use native.Mathlib.Decide.{decLt}
 use native.Mathlib.Nat.{add-suc, add-zero, le-step, lt-suc-self}
 use native.Mathlib.Omega.{arith}
 use borrow.Author.Tests.{eqb-true, eqb-false, ne-eqb}
@@ -15,9 +16,11 @@ use Rattle.model.specs.Constraints.{inUse}
 use Rattle.model.specs.State.{Context, State, sameContext, contextOf, stateOf, start, put}
 use Rattle.model.specs.Tests.{pick}
 use Rattle.model.specs.Verdict.{passed, before}
-use Rattle.model.proofs.TestFacts.{pick-has, pick-second}
+use Rattle.model.proofs.TestFacts.{eqb-self, pick-has, pick-second}
 use Rattle.state.specs.Look.{lookBack}
-use Rattle.recent.specs.Notes.{slots, slotOf, latest, Notes, shown, recalled}
+use Rattle.state.specs.Order.{lowerContext}
+use Rattle.state.proofs.OrderLaws.{lower-self, lower-trans, told-apart}
+use Rattle.recent.specs.Notes.{slots, slotOf, latest, Span, outside, lowerOf, higherOf, wider, Known, shown, recalled}
 
 -- ---- the latest row of an entry
 
@@ -30,11 +33,11 @@ pick-later true a b c = refl
 pick-later false a b c = refl
 
 module _ (r : ℕ → Cells) (slot : ℕ) where
-  latest-le : (i : ℕ) → latest r slot i ≤ i
+  latest-le : (i : ℕ) → latest r slot i ≤ i - 1
   unfolding latest
   latest-le zero = omega arith
   latest-le (suc i) =
-      pick-has (λ (k : ℕ). k ≤ suc i) (inUse (r i) && eqb (slotOf (contextOf (r i))) slot) (λ e. omega arith) (λ e. omega (arith, latest-le i))
+      pick-has (λ (k : ℕ). k ≤ suc i - 1) (inUse (r i) && eqb (slotOf (contextOf (r i))) slot) (λ e. omega arith) (λ e. omega (arith, latest-le i))
 
   latest-same : (q : ℕ → Cells) (i : ℕ) → ((j : ℕ) → j < i → q j ≡ r j) → latest q slot i ≡ latest r slot i
   unfolding latest
@@ -46,7 +49,7 @@ module _ (r : ℕ → Cells) (slot : ℕ) where
   latest-unused i u = rw u
 
   latest-used : (i : ℕ) (x : Context) → inUse (r i) ≡ true → contextOf (r i) ≡ x
-      → latest r slot (suc i) ≡ pick (eqb (slotOf x) slot) (suc i) (latest r slot i)
+      → latest r slot (suc i) ≡ pick (eqb (slotOf x) slot) i (latest r slot i)
   unfolding latest
   latest-used i x used own = rw (used, ← own)
 
@@ -55,7 +58,7 @@ module _ (r : ℕ → Cells) (slot : ℕ) where
   latest-none zero none = refl
   latest-none (suc i) none = latest-unused i (none i (lt-suc-self i)) ∙ latest-none i (λ j h. none j (le-step h))
 
-  latest-run : (i m : ℕ) (x : Context) → Run r i m x → latest r slot (i + suc m) ≡ pick (eqb (slotOf x) slot) (i + suc m) (latest r slot i)
+  latest-run : (i m : ℕ) (x : Context) → Run r i m x → latest r slot (i + suc m) ≡ pick (eqb (slotOf x) slot) (i + m) (latest r slot i)
   latest-run i zero x run =
       let (used, own) = run 0 (omega arith) in
       rw (add-suc, add-zero) (latest-used i x (rw add-zero at used) (rw add-zero at own))
@@ -63,95 +66,131 @@ module _ (r : ℕ → Cells) (slot : ℕ) where
       let (used, own) = run (suc m) (omega arith) in
       rw (add-suc i (suc m)) (latest-used (i + suc m) x used own ∙ rw (latest-run i m x (λ j h. run j (le-step h))) (pick-later (eqb (slotOf x) slot) _ _ _))
 
--- ---- the notes
+-- ---- the span
 
--- over rows that are not in use all entries are 0
-pub notes-none : (r : ℕ → Cells) (i : ℕ) → ((j : ℕ) → j < i → inUse (r j) ≡ false) → Notes (replicate slots 0) r i
-notes-none r i none = record { size = length-replicate {A = ℕ} slots 0; entry = λ slot h. getD-replicate slots slot 0 0 h ∙ sym (latest-none r slot i none) }
+not-so : (t : Bool) → (t ≡ true → false ≡ true) → t ≡ false
+not-so true h = sym (h refl)
+not-so false h = refl
 
--- before the first row all entries are 0
-pub notes-first : (r : ℕ → Cells) → Notes (replicate slots 0) r 0
-notes-first r = notes-none r 0 (λ j h. absurd (omega arith))
+neither : (t u : Bool) → (t || u) ≡ false → (t ≡ false) × (u ≡ false)
+neither true u e = absurd (false≢true (sym e))
+neither false u e = (refl, e)
+
+-- a context that is not lower than another is not lower than one that is; and so for higher
+module _ (x y z : Context) where
+  above-lower : lowerContext x z ≡ true → lowerContext y z ≡ false → lowerContext y x ≡ false
+  above-lower l n = not-so (lowerContext y x) (λ e. sym n ∙ lower-trans y x z e l)
+
+  below-higher : lowerContext z x ≡ true → lowerContext z y ≡ false → lowerContext x y ≡ false
+  below-higher l n = not-so (lowerContext x y) (λ e. sym n ∙ lower-trans z x y l e)
+
+module _ (s : Span) (x : Context) where
+  -- the span holds what it held
+  stays-inside : (y : Context) → outside s y ≡ false → outside (wider s x) y ≡ false
+  unfolding outside
+  stays-inside y e =
+      let (low, high) = neither (lowerContext y (s .lowest)) (lowerContext (s .highest) y) e in
+      rw (pick-has (λ (z : Context). lowerContext y z ≡ false) (lowerContext x (s .lowest)) (λ l. above-lower x y (s .lowest) l low) (λ n. low))
+      (pick-has (λ (z : Context). lowerContext z y ≡ false) (lowerContext (s .highest) x) (λ l. below-higher x y (s .highest) l high) (λ n. high))
+
+  -- and the new one
+  new-inside : outside (wider s x) x ≡ false
+  unfolding outside
+  new-inside =
+      rw (pick-has (λ (z : Context). lowerContext x z ≡ false) (lowerContext x (s .lowest)) (λ l. lower-self x) (λ n. n))
+      (pick-has (λ (z : Context). lowerContext z x ≡ false) (lowerContext (s .highest) x) (λ l. lower-self x) (λ n. n))
+
+-- ---- what is known
+
+-- over rows that are not in use all entries are 0, and any span will do
+pub known-none : (s : Span) (r : ℕ → Cells) (i : ℕ) → ((j : ℕ) → j < i → inUse (r j) ≡ false) → Known (replicate slots 0) s r i
+known-none s r i none = record {
+  size = length-replicate {A = ℕ} slots 0;
+  entry = λ slot h. getD-replicate slots slot 0 0 h ∙ sym (latest-none r slot i none);
+  first = none 0;
+  inside = λ j h used. absurd (false≢true (sym (none j h) ∙ used));
+}
 
 slot-lt : (x : Context) → slotOf x < slots
 slot-lt x = omega arith
 
-module _ {l : List ℕ} {r : ℕ → Cells} {i : ℕ} (n : Notes l r i) where
+module _ {l : List ℕ} {s : Span} {r : ℕ → Cells} {i : ℕ} (known : Known l s r i) where
   -- a noted row is one of those before
-  pub noted-before : (x : Context) → getD l (slotOf x) 0 ≤ i
-  noted-before x = rw (n .entry (slotOf x) (slot-lt x)) (latest-le r (slotOf x) i)
+  pub noted-before : (x : Context) → getD l (slotOf x) 0 ≤ i - 1
+  noted-before x = rw (known .entry (slotOf x) (slot-lt x)) (latest-le r (slotOf x) i)
 
-  -- the notes are those on other rows, where these are the same before row i
-  pub notes-same : (q : ℕ → Cells) → ((j : ℕ) → j < i → q j ≡ r j) → Notes l q i
-  notes-same q same = record { size = n .size; entry = λ slot h. n .entry slot h ∙ sym (latest-same r slot q i same) }
+  -- the same is known of other rows, where these are the same before row i
+  pub known-same : (q : ℕ → Cells) → ((j : ℕ) → j < i → q j ≡ r j) → Known l s q i
+  known-same q same = record {
+    size = known .size;
+    entry = λ slot h. known .entry slot h ∙ sym (latest-same r slot q i same);
+    first = λ some. rw (same 0 some) (known .first some);
+    inside = λ j h. rw (same j h) (known .inside j h);
+  }
 
-  -- a row that is not in use changes nothing
-  pub notes-unused : inUse (r i) ≡ false → Notes l r (suc i)
-  notes-unused u = record { size = n .size; entry = λ slot h. n .entry slot h ∙ sym (latest-unused r slot i u) }
-
-  -- once row k - 1 is the latest of the entry of x and the other entries are as they were, it is noted
-  notes-set : (x : Context) (k : ℕ) → ((slot : ℕ) → latest r slot k ≡ pick (eqb (slotOf x) slot) k (latest r slot i)) → Notes (set l (slotOf x) k) r k
-  notes-set x k own = record {
-    size = length-set l (slotOf x) k ∙ n .size;
-    entry = λ slot h. by slot h (eqb (slotOf x) slot) refl ∙ sym (own slot);
+  -- of rows in use with one context the last is noted, and the context is in the span
+  pub known-run : 0 < i → (x : Context) (m : ℕ) → Run r i m x → Known (set l (slotOf x) (i + m)) (wider s x) r (i + suc m)
+  known-run some x m run = record {
+    size = length-set l (slotOf x) (i + m) ∙ known .size;
+    entry = λ slot h. entry-by slot h (eqb (slotOf x) slot) refl ∙ sym (latest-run r slot i m x run);
+    first = λ more. known .first some;
+    inside = λ j h used. inside-by j h used (decLt j i);
   }
     where
-      by : (slot : ℕ) → slot < slots → (t : Bool) → eqb (slotOf x) slot ≡ t → getD (set l (slotOf x) k) slot 0 ≡ pick (eqb (slotOf x) slot) k (latest r slot i)
-      by slot h true e = rw (e, ← eqb-true (slotOf x) slot e) (getD-set-same l (slotOf x) k 0 (rw (n .size) (slot-lt x)))
-      by slot h false e = rw e (getD-set-other l (slotOf x) slot k 0 (λ q. eqb-false (slotOf x) slot e (sym q)) ∙ n .entry slot h)
+      entry-by : (slot : ℕ) → slot < slots → (t : Bool) → eqb (slotOf x) slot ≡ t
+          → getD (set l (slotOf x) (i + m)) slot 0 ≡ pick (eqb (slotOf x) slot) (i + m) (latest r slot i)
+      entry-by slot h true e = rw (e, ← eqb-true (slotOf x) slot e) (getD-set-same l (slotOf x) (i + m) 0 (rw (known .size) (slot-lt x)))
+      entry-by slot h false e = rw e (getD-set-other l (slotOf x) slot (i + m) 0 (λ q. eqb-false (slotOf x) slot e (sym q)) ∙ known .entry slot h)
 
-  -- a row in use is noted
-  pub notes-used : inUse (r i) ≡ true → Notes (set l (slotOf (contextOf (r i))) (suc i)) r (suc i)
-  notes-used u = notes-set (contextOf (r i)) (suc i) (λ slot. latest-used r slot i (contextOf (r i)) u refl)
-
-  -- and so is the last of rows in use with one context
-  pub notes-run : (x : Context) (m : ℕ) → Run r i m x → Notes (set l (slotOf x) (i + suc m)) r (i + suc m)
-  notes-run x m run = notes-set x (i + suc m) (λ slot. latest-run r slot i m x run)
-
--- ---- the state that an entry shows
-
-less-one : (j : ℕ) → suc j - 1 ≡ j
-less-one j = omega arith
-
-module _ (r : ℕ → Cells) (x : Context) (s : State) where
-  -- no row was noted
-  pub shown-none : (k : ℕ) → k ≡ 0 → shown r x k s ≡ start
-  shown-none k e = rw e
-
-  -- the noted row has the context
-  pub shown-own : (k : ℕ) → k ≢ 0 → sameContext (contextOf (r (k - 1))) x ≡ true → shown r x k s ≡ stateOf (r (k - 1))
-  shown-own zero some e = absurd (some refl)
-  shown-own (suc j) some e = rw (less-one j, rw (less-one j) at e)
-
-  -- it has another
-  pub shown-other : (k : ℕ) → k ≢ 0 → sameContext (contextOf (r (k - 1))) x ≡ false → shown r x k s ≡ s
-  shown-other zero some e = absurd (some refl)
-  shown-other (suc j) some e = rw (rw (less-one j) at e)
+      inside-by : (j : ℕ) → j < i + suc m → inUse (r j) ≡ true → Dec (j < i) → outside (wider s x) (contextOf (r j)) ≡ false
+      inside-by j h used (yes b) = stays-inside s x (contextOf (r j)) (known .inside j b used)
+      inside-by j h used (no b) =
+          let place : i + (j - i) ≡ j = omega arith in
+          rw (rw place at (run (j - i) (omega arith) .1)) (new-inside s x)
 
 -- ---- the state before a row
 
 module _ (r : ℕ → Cells) (x : Context) where
+  -- a context outside of the span of the rows in use before row i has no earlier instruction
+  new-context : (s : Span) → outside s x ≡ true → (i : ℕ) → ((j : ℕ) → j < i → inUse (r j) ≡ true → outside s (contextOf (r j)) ≡ false)
+      → before r i x ≡ start
+  unfolding before passed put
+  new-context s out zero inside = refl
+  new-context s out (suc i) inside = by (inUse (r i)) refl (new-context s out i (λ j h. inside j (le-step h)))
+    where
+      by : (t : Bool) → inUse (r i) ≡ t → before r i x ≡ start → pick t (put (before r i) (contextOf (r i)) (stateOf (r i))) (before r i) x ≡ start
+      by true u rest = rw (told-apart (outside s) (contextOf (r i)) x (inside i (lt-suc-self i) u) out) rest
+      by false u rest = rest
+
   -- the entry of the context, by the rows before row i, shows no state but the one before row i
   abbrev Shows : ℕ → Type 0
   Shows i = shown r x (latest r (slotOf x) i) (before r i x) ≡ before r i x
 
-  shows-next : (i : ℕ) → Shows i → Shows (suc i)
-  unfolding latest before passed put sameContext
-  shows-next i shows = by (inUse (r i)) (eqb (slotOf (contextOf (r i))) (slotOf x)) refl
+  shows-next : (i : ℕ) → (inUse (r i) ≡ true → i ≢ 0) → Shows i → Shows (suc i)
+  unfolding latest before passed put
+  shows-next i later shows = by (inUse (r i)) (eqb (slotOf (contextOf (r i))) (slotOf x)) refl refl
     where
-      by : (t u : Bool) → eqb (slotOf (contextOf (r i))) (slotOf x) ≡ u
-          → shown r x (pick (t && u) (suc i) (latest r (slotOf x) i)) (pick t (put (before r i) (contextOf (r i)) (stateOf (r i))) (before r i) x)
+      by : (t u : Bool) → inUse (r i) ≡ t → eqb (slotOf (contextOf (r i))) (slotOf x) ≡ u
+          → shown r x (pick (t && u) i (latest r (slotOf x) i)) (pick t (put (before r i) (contextOf (r i)) (stateOf (r i))) (before r i) x)
           ≡ pick t (put (before r i) (contextOf (r i)) (stateOf (r i))) (before r i) x
-      by false u e = shows
-      by true true e = pick-second (eqb (r i .cn) (x .cn)) (stateOf (r i)) _ (λ same. rw same)
-      by true false e = rw (ne-eqb (r i .cn) (x .cn) (λ same. eqb-false _ _ e (ap (λ (cn : ℕ). cn % slots) same))) shows
+      by false u used e = shows
+      by true true used e = rw (ne-eqb i 0 (later used)) (pick-second (sameContext (contextOf (r i)) x) (stateOf (r i)) _ (λ same. rw same))
+      by true false used e =
+          rw (told-apart (λ (y : Context). eqb (slotOf y) (slotOf x)) (contextOf (r i)) x e (eqb-self (slotOf x))) shows
 
-  shows-all : (i : ℕ) → Shows i
+  shows-all : (i : ℕ) → (0 < i → inUse (r 0) ≡ false) → Shows i
   unfolding latest before
-  shows-all zero = refl
-  shows-all (suc i) = shows-next i (shows-all i)
+  shows-all zero first = refl
+  shows-all (suc i) first = shows-next i later (shows-all i (λ some. first (omega arith)))
+    where
+      later : inUse (r i) ≡ true → i ≢ 0
+      later used e = false≢true (sym (first (omega arith)) ∙ rw (← e) used)
 
--- where the look-up answers the state before the row, so do the notes
-pub recalled-before : {l : List ℕ} {r : ℕ → Cells} {i : ℕ} → Notes l r i → (x : Context) (limit : ℕ) → lookBack r x limit i .state ≡ before r i x
-    → recalled r l x limit i ≡ before r i x
-recalled-before {r = r} {i = i} n x limit e = rw (n .entry (slotOf x) (slot-lt x), e) (shows-all r x i)
+-- where the look-up answers the state before the row, so does what is known
+pub recalled-before : {l : List ℕ} {s : Span} {r : ℕ → Cells} {i : ℕ} → Known l s r i → (x : Context) (limit : ℕ)
+    → lookBack r x limit i .state ≡ before r i x → recalled r l s x limit i ≡ before r i x
+recalled-before {l} {s} {r} {i} known x limit e = by (outside s x) refl
+  where
+    by : (t : Bool) → outside s x ≡ t → pick t start (shown r x (getD l (slotOf x) 0) (lookBack r x limit i .state)) ≡ before r i x
+    by true out = sym (new-context r x s out i (known .inside))
+    by false out = rw (known .entry (slotOf x) (slot-lt x), e) (shows-all r x i (known .first))

@@ -1,6 +1,7 @@
--- The notes on the rows before a row: for each remainder of CN, the latest row in use with it. By them a context's state is found without a look back.
+-- What is known of the rows before a row: for each remainder of CN the latest row in use with it, and the lowest and the highest context of the rows in
+-- use. By them a context's state is found without a look back.
 use Prim.Native.Nat.{ℕ, zero, suc, _%_, _<_}
-use mathlib.Core.Bool.{_&&_}
+use mathlib.Core.Bool.{Bool, true, false, _&&_, _||_}
 use mathlib.Core.List.{List}
 use mathlib.Core.Path.{_≡_}
 use lib.Dec.{eqb}
@@ -10,31 +11,70 @@ use Rattle.model.specs.Constraints.{inUse}
 use Rattle.model.specs.State.{Context, State, sameContext, contextOf, stateOf, start}
 use Rattle.model.specs.Tests.{pick}
 use Rattle.state.specs.Look.{lookBack}
+use Rattle.state.specs.Order.{lowerContext}
+use Rattle.state.specs.Plain.{context}
+use Rattle.recent.specs.declared.Span as code
+
+-- ---- the notes
 
 -- how many entries the notes have
 abbrev pub slots : ℕ
-slots = 256
+slots = 1024
 
 -- the entry of a context
 abbrev pub slotOf : Context → ℕ
 slotOf x = x .cn % slots
 
--- 1 + the latest row in use before row i whose context has this entry; 0 if there is none
+-- the latest row in use before row i whose context has this entry; 0 if there is none, since row 0 is not in use
 unfoldable pub latest : (ℕ → Cells) → (slot i : ℕ) → ℕ
 latest r slot zero = 0
-latest r slot (suc i) = pick (inUse (r i) && eqb (slotOf (contextOf (r i))) slot) (suc i) (latest r slot i)
+latest r slot (suc i) = pick (inUse (r i) && eqb (slotOf (contextOf (r i))) slot) i (latest r slot i)
 
--- the list is the notes on the rows before row i
-pub record Notes (l : List ℕ) (r : ℕ → Cells) (i : ℕ) : Type 0 where
+-- ---- the span
+
+-- contexts between a lowest and a highest
+pub record Span : Type 0 where
+  pub lowest : Context
+  pub highest : Context
+
+-- the span that the code holds
+abbrev pub plainSpan : code.Span → Span
+plainSpan s = record { lowest = context (s .lowest); highest = context (s .highest) }
+
+-- the span of no context: each is outside
+abbrev pub noSpan : Span
+noSpan = record { lowest = record { cn = 4294967295 }; highest = record { cn = 0 } }
+
+-- a context outside of a span
+unfoldable pub outside : Span → Context → Bool
+outside s x = lowerContext x (s .lowest) || lowerContext (s .highest) x
+
+-- the lower of two contexts, and the higher
+abbrev pub lowerOf : Context → Context → Context
+lowerOf x y = pick (lowerContext x y) x y
+
+abbrev pub higherOf : Context → Context → Context
+higherOf x y = pick (lowerContext y x) x y
+
+-- the span with one context more
+abbrev pub wider : Span → Context → Span
+wider s x = record { lowest = lowerOf x (s .lowest); highest = higherOf x (s .highest) }
+
+-- ---- what they say of the rows
+
+-- the list is the notes on the rows before row i, and the contexts of those in use are in the span; row 0 is not in use
+pub record Known (l : List ℕ) (s : Span) (r : ℕ → Cells) (i : ℕ) : Type 0 where
   pub size : length l ≡ slots
   pub entry : (slot : ℕ) → slot < slots → getD l slot 0 ≡ latest r slot i
+  pub first : 0 < i → inUse (r 0) ≡ false
+  pub inside : (j : ℕ) → j < i → inUse (r j) ≡ true → outside s (contextOf (r j)) ≡ false
 
 -- the state that an entry shows for the context: that of a context without an earlier instruction where no row was noted, that which the noted row
 -- leaves where the row has the context, and else the given one
 abbrev pub shown : (ℕ → Cells) → Context → (entry : ℕ) → State → State
-shown r x zero s = start
-shown r x (suc j) s = pick (sameContext (contextOf (r j)) x) (stateOf (r j)) s
+shown r x k s = pick (eqb k 0) start (pick (sameContext (contextOf (r k)) x) (stateOf (r k)) s)
 
--- the state of the context before row i by the notes; where they show another context's row, the look-up's answer over at most `limit` cycles
-abbrev pub recalled : (ℕ → Cells) → List ℕ → Context → (limit i : ℕ) → State
-recalled r l x limit i = shown r x (getD l (slotOf x) 0) (lookBack r x limit i .state)
+-- the state of the context before row i: that of a context without an earlier instruction where the context is outside of the span, and else by the notes;
+-- where they show another context's row, the look-up's answer over at most `limit` cycles
+abbrev pub recalled : (ℕ → Cells) → List ℕ → Span → Context → (limit i : ℕ) → State
+recalled r l s x limit i = pick (outside s x) start (shown r x (getD l (slotOf x) 0) (lookBack r x limit i .state))

@@ -1,4 +1,5 @@
 -- The laws and theorems of `state` that belong to no one function.
+pub mod OrderLaws
 pub mod SearchLaws
 pub mod LookLaws
 pub mod AfterLaws

@@ -1,3 +1,4 @@
 -- The definitions of `state`.
 pub mod Plain
+pub mod Order
 pub mod Look

@@ -2,6 +2,7 @@
 ghost use mathlib.Core.Path.{_≡_};
 ghost use Rattle.model.specs.State.{contextOf, sameContext, start};
 ghost use Rattle.row.specs.Plain.{plain};
+ghost use Rattle.state.specs.Order.{lowerContext};
 ghost use Rattle.state.specs.Plain.{context, state};
 use gas::Bytes;
 use gas::Gas;
@@ -32,6 +33,13 @@ pub fn same_context(a: Context, b: Context) -> bool
     ensures { λ r. ⌜ r ≡ sameContext (context a) (context b) ⌝ }
 {
     a.cn == b.cn
+}
+
+// Whether a is the lower context of the two.
+pub fn is_lower(a: Context, b: Context) -> bool
+    ensures { λ r. ⌜ r ≡ lowerContext (context a) (context b) ⌝ }
+{
+    a.cn < b.cn
 }
 
 // The state of a context without an earlier instruction.

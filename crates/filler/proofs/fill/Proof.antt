@@ -1,5 +1,6 @@
 -- `filler::fill` meets its contract: the two refusals before the list is read, then that of its first reading (`outcome-refused`), and else the
 -- trace of the lines that were counted (`measured-lists`, `outcome-lists`).
+use mathlib.Core.Bool.{false≢true}
 use mathlib.Core.Path.{_≡_, sym, _∙_, ap}
 use borrow.Author.Needs.{needs}
 use lib.ListN.{length}
@@ -10,11 +11,11 @@ use Rattle.filler.proofs.FillLaws.{outcome-long, outcome-none, outcome-
 use Rattle.filler.proofs.fill.Statement.{statement}
 use Rattle.filler.proofs.fill.Tie as tie
 
--- the list has the lines that were counted, and their cycles the rows
+-- the text is a list, and its cycles have the rows that were counted
 counted : (c : tie.After-measured2)
-    → let t = c .before .before .before .before .before .before .before .args .list .now in
-    Lists t (c .measured2 .given .0 .0) × (c .measured2 .given .0 .1 .0 ≡ rowsOfClaims (listClaims t))
-counted c = measured-lists _ (sym (c .before .before .measure .ensures) ∙ c .measured2 .given .1)
+    → let t = c .before .before .before .before .before .before .before .before .before .before .args .list .now in
+    Lists t × (c .measured2 .given .0 .0 ≡ rowsOfClaims (listClaims t))
+counted c = measured-lists _ (sym (c .before .before .before .before .read-lines .ensures .0) ∙ c .measured2 .given .1)
 
 list-too-long-requires : tie.Need-list-too-long-requires
 list-too-long-requires c κs = search needs
@@ -34,8 +35,8 @@ returns-2 c =
     let e = outcome-none (a .list .now) (a .empty) (length (a .buf .now)) (search needs) (search needs) in
     (rw e (ap Refused (c .no-empty-row .ensures)), rw e)
 
-measure-requires : tie.Need-measure-requires
-measure-requires c κs = search needs
+read-lines-requires : tie.Need-read-lines-requires
+read-lines-requires c κs = (search needs, (search needs, λ e. absurd (false≢true e)))
 
 enum-known-measured : tie.Need-enum-known-measured
 enum-known-measured c = search needs
@@ -43,29 +44,33 @@ enum-known-measured c = search needs
 enum-known-measured-2 : tie.Need-enum-known-measured-2
 enum-known-measured-2 c = search needs
 
-fill-lines-requires : tie.Need-fill-lines-requires
-fill-lines-requires c κs =
+fill-rows-requires : tie.Need-fill-rows-requires
+fill-rows-requires c κs =
     let l = counted (c .before .before) in
-    (l .0, (l .1, search needs))
+    (search needs, (l .0, (l .1, search needs)))
 
 returns-3 : tie.Need-returns-3
 returns-3 c =
     let told = c .before in
-    let call = told .before .before in
-    let a = call .before .before .before .before .before .args in
-    let e = outcome-refused (a .list .now) (a .empty) (length (a .buf .now)) (search needs) (search needs) (sym (call .measure .ensures) ∙ told .measured .given .1) in
-    (rw (e .2) (ap Refused {y = inLine (e .0) (e .1)} (e .3)), rw (e .2))
+    let call = told .before .before .before .before in
+    let a = call .before .before .before .before .before .before .args in
+    let e = outcome-refused (a .list .now) (a .empty) (length (a .buf .now)) (search needs) (search needs) (sym (call .read-lines .ensures .0) ∙ told .measured .given .1) in
+    (rw (e .2) (ap Refused {y = inLine (e .0) (e .1)} (e .3)), rw (e .2) (call .read-lines .ensures .1))
 
 same-length : tie.Need-same-length
 same-length c = search needs
+
+same-length-2 : tie.Need-same-length-2
+same-length-2 c = search needs
 
 returns-4 : tie.Need-returns-4
 returns-4 c =
     let filled = c .before .before in
     let told = filled .before .before .before in
-    let a = told .before .before .before .before .before .before .before .args in
+    let call = told .before .before .before .before in
+    let a = call .before .before .before .before .before .before .args in
     let e = outcome-lists (a .list .now) (a .empty) (length (a .buf .now)) (search needs) (search needs) (counted told .0) in
-    rw e (filled .fill-lines .ensures)
+    rw e (rw (call .read-lines .ensures .1) at (filled .fill-rows .ensures))
 
 pub fill-spec : {M : Type 1} → statement M
 fill-spec =
@@ -75,10 +80,11 @@ fill-spec =
     returns
     no-empty-row-requires
     returns-2
-    measure-requires
+    read-lines-requires
     enum-known-measured
     enum-known-measured-2
-    fill-lines-requires
-    returns-3
+    fill-rows-requires
     same-length
+    returns-3
+    same-length-2
     returns-4)

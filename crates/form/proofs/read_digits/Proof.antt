@@ -6,12 +6,6 @@ use Rattle.form.proofs.StepLaws.{too-few, enough}
 use Rattle.form.proofs.read_digits.Statement.{statement}
 use Rattle.form.proofs.read_digits.Tie as tie
 
-run-digits-requires : tie.Need-run-digits-requires
-run-digits-requires c κs = search needs
-
-sub-if1 : tie.Need-sub-if1
-sub-if1 c = search needs
-
 returns : tie.Need-returns
 returns c =
     let run = c .before .before .run-digits in
@@ -25,4 +19,8 @@ returns-2 c =
     enough (a .least) (a .most) (a .t .now) (a .p) (digitRun (run .result)) (run .ensures .0) (omega arith)
 
 pub read-digits-spec : {M : Type 1} → statement M
-read-digits-spec = tie.close (tie.spec run-digits-requires sub-if1 returns returns-2)
+read-digits-spec = tie.close (tie.spec
+    (λ c κs. search needs)
+    (λ c. search needs)
+    returns
+    returns-2)

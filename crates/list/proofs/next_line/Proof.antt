@@ -21,27 +21,6 @@ returns c =
     let a = c .before .before .args in
     rw (le-leb (length (a .t .now)) (a .p) (omega arith))
 
-read-line-requires : tie.Need-read-line-requires
-read-line-requires c κs = search needs
-
-enum-known-line : tie.Need-enum-known-line
-enum-known-line c = search needs
-
-not-of-form-requires : tie.Need-not-of-form-requires
-not-of-form-requires c κs = search needs
-
-enum-known-line-2 : tie.Need-enum-known-line-2
-enum-known-line-2 c = search needs
-
-decode-fields-requires : tie.Need-decode-fields-requires
-decode-fields-requires c κs = search needs
-
-enum-known-decoded : tie.Need-enum-known-decoded
-enum-known-decoded c = search needs
-
-enum-known-decoded-2 : tie.Need-enum-known-decoded-2
-enum-known-decoded-2 c = search needs
-
 returns-2 : tie.Need-returns-2
 unfolding nextLine
 returns-2 c =
@@ -79,13 +58,13 @@ next-line-spec =
     tie.close
     (tie.spec
     returns
-    read-line-requires
-    enum-known-line
-    not-of-form-requires
-    enum-known-line-2
-    decode-fields-requires
-    enum-known-decoded
-    enum-known-decoded-2
+    (λ c κs. search needs)
+    (λ c. search needs)
+    (λ c κs. search needs)
+    (λ c. search needs)
+    (λ c κs. search needs)
+    (λ c. search needs)
+    (λ c. search needs)
     returns-2
     returns-3
     returns-4)

@@ -1,94 +1,109 @@
--- `recent::recall` meets its contract: the entry of the context shows its state by the cases of `shown`. A noted row is one of those before (`noted-before`), so
--- it stands in the bytes.
+-- `recent::recall` meets its contract by the cases of `recalled`. A noted row is one of those before (`noted-before`), so it stands in the bytes.
 use Prim.Native.Nat.{_-_, _≤_}
-use mathlib.Core.Path.{sym, _∙_, ap}
+use mathlib.Core.Bool.{false}
+use mathlib.Core.Path.{_≡_, sym, _∙_, ap}
 use native.Mathlib.Omega.{arith}
 use borrow.Author.Needs.{needs}
+use borrow.Author.Tests.{ne-eqb}
 use lib.ListN.{getD}
 use Rattle.model.specs.Cycles.{Looked}
 use Rattle.state.specs.Plain.{context}
-use Rattle.recent.proofs.NoteLaws.{noted-before, shown-none, shown-own, shown-other}
+use Rattle.recent.specs.Notes.{plainSpan, outside}
+use Rattle.recent.proofs.NoteLaws.{noted-before}
 use Rattle.recent.proofs.recall.Statement.{statement}
 use Rattle.recent.proofs.recall.Tie as tie
 
--- the entry is that of a row before
+-- behind the first test the context is inside of the span
 inside : (c : tie.After-slot-of)
-    → let a = c .before .before .args in
-    getD (a .notes .now) (c .slot-of .result) 0 ≤ a .row
-inside c =
-    let start = c .before .before in
+    → let a = c .before .before .before .before .args in
+    outside (plainSpan (a .span)) (context (a .x)) ≡ false
+inside c = sym (c .before .before .is-outside .ensures) ∙ c .before .if1 .left
+
+-- the entry is that of a row before
+noted : (c : tie.After-slot-of)
+    → let a = c .before .before .before .before .args in
+    getD (a .notes .now) (c .slot-of .result) 0 ≤ a .row - 1
+noted c =
+    let start = c .before .before .before .before in
     rw (c .slot-of .ensures) (noted-before (start .pre .1) (context (start .args .x)))
 
-slot-of-requires : tie.Need-slot-of-requires
-slot-of-requires c κs = search needs
-
-mul-noted : tie.Need-mul-noted
-mul-noted c = search needs
-
-element-copy-out-noted : tie.Need-element-copy-out-noted
-element-copy-out-noted c = search needs
-
-cast-noted : tie.Need-cast-noted
-cast-noted c = omega (arith, inside (c .before))
+is-outside-requires : tie.Need-is-outside-requires
+is-outside-requires c κs = search needs
 
 start-state-requires : tie.Need-start-state-requires
 start-state-requires c κs = search needs
 
 returns : tie.Need-returns
-returns c =
-    let slot = c .before .before .before in
-    c .start-state .ensures ∙ sym (shown-none _ _ _ _ (rw (slot .slot-of .ensures) at (c .before .if1 .taken)))
+returns c = rw (sym (c .before .before .is-outside .ensures) ∙ c .before .if1 .taken) (c .start-state .ensures)
 
-sub-last : tie.Need-sub-last
-sub-last c = search needs
+slot-of-requires : tie.Need-slot-of-requires
+slot-of-requires c κs = search needs
 
-has-context-requires : tie.Need-has-context-requires
-has-context-requires c κs =
-    let slot = c .before .before in
-    omega (arith, inside slot, slot .before .before .pre .0)
+mul-last : tie.Need-mul-last
+mul-last c = search needs
 
-state-at-requires : tie.Need-state-at-requires
-state-at-requires c κs =
-    let slot = c .before .before .before .before in
-    omega (arith, inside slot, slot .before .before .pre .0)
+element-copy-out-last : tie.Need-element-copy-out-last
+element-copy-out-last c = search needs
+
+cast-last : tie.Need-cast-last
+cast-last c = omega (arith, noted (c .before))
+
+start-state-requires-2 : tie.Need-start-state-requires-2
+start-state-requires-2 c κs = search needs
 
 returns-2 : tie.Need-returns-2
 returns-2 c =
     let test = c .before in
-    let read = test .before in
-    let slot = read .before .before .before in
-    let a = slot .before .before .args in
-    let k = getD (a .notes .now) (slot .slot-of .result) 0 in
-    rw (← slot .slot-of .ensures)
-    (c .state-at .ensures ∙ sym (shown-own _ _ _ k (read .before .if1 .left) (sym (read .has-context .ensures) ∙ test .if2 .taken)))
+    let slot = test .before .before in
+    rw (inside slot, ← slot .slot-of .ensures, test .if2 .taken) (c .start-state2 .ensures)
+
+has-context-requires : tie.Need-has-context-requires
+has-context-requires c κs =
+    let slot = c .before .before in
+    omega (arith, noted slot, c .if2 .left, slot .before .before .before .before .pre .0)
+
+state-at-requires : tie.Need-state-at-requires
+state-at-requires c κs =
+    let test = c .before .before in
+    let slot = test .before .before in
+    omega (arith, noted slot, test .if2 .left, slot .before .before .before .before .pre .0)
+
+returns-3 : tie.Need-returns-3
+returns-3 c =
+    let own = c .before in
+    let read = own .before in
+    let some = read .before in
+    let slot = some .before .before in
+    rw (inside slot, ← slot .slot-of .ensures, ne-eqb _ 0 (some .if2 .left), sym (read .has-context .ensures) ∙ own .if3 .taken) (c .state-at .ensures)
 
 state-before-requires : tie.Need-state-before-requires
 state-before-requires c κs = search needs
 
-returns-3 : tie.Need-returns-3
-returns-3 c =
+returns-4 : tie.Need-returns-4
+returns-4 c =
     let looked = c .before in
-    let test = looked .before in
-    let read = test .before in
-    let slot = read .before .before .before in
-    let a = slot .before .before .args in
-    let k = getD (a .notes .now) (slot .slot-of .result) 0 in
-    let answers = ap (λ (a : Looked). a .state) (looked .state-before .ensures) in
-    rw (← slot .slot-of .ensures) (answers ∙ sym (shown-other _ _ _ k (read .before .if1 .left) (sym (read .has-context .ensures) ∙ test .if2 .left)))
+    let other = looked .before in
+    let read = other .before in
+    let some = read .before in
+    let slot = some .before .before in
+    rw (inside slot, ← slot .slot-of .ensures, ne-eqb _ 0 (some .if2 .left), sym (read .has-context .ensures) ∙ other .if3 .left)
+    (ap (λ (a : Looked). a .state) (looked .state-before .ensures))
 
 pub recall-spec : {M : Type 1} → statement M
 recall-spec =
     tie.close
     (tie.spec
-    slot-of-requires
-    mul-noted
-    element-copy-out-noted
-    cast-noted
+    is-outside-requires
     start-state-requires
     returns
-    sub-last
+    slot-of-requires
+    mul-last
+    element-copy-out-last
+    cast-last
+    start-state-requires-2
+    returns-2
     has-context-requires
     state-at-requires
-    returns-2
+    returns-3
     state-before-requires
-    returns-3)
+    returns-4)

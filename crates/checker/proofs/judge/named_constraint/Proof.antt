@@ -4,6 +4,9 @@ use Rattle.checker.proofs.RowLaws.{first-of-rows}
 use Rattle.checker.proofs.judge.named_constraint.Statement.{statement}
 use Rattle.checker.proofs.judge.named_constraint.Tie as tie
 
+keeps-state-requires : tie.Need-keeps-state-requires
+keeps-state-requires c κs = search needs
+
 read-row-requires : tie.Need-read-row-requires
 read-row-requires c κs = search needs
 
@@ -27,12 +30,15 @@ returns c =
     let twenty-five = c .before in
     let two = twenty-five .before in
     let one = two .before in
-    first-of-rows _ _ _ _ _ _ _ _ _ (two .two-before .ensures) (one .row-before .ensures) (one .before .read-row .ensures) (twenty-five .rule25 .ensures) (c .first-broken .ensures)
+    let read = one .before in
+    first-of-rows _ _ _ _ _ _ _ _ _ _ (read .before .keeps-state .ensures) (two .two-before .ensures) (one .row-before .ensures) (read .read-row .ensures)
+    (twenty-five .rule25 .ensures) (c .first-broken .ensures)
 
 pub named-constraint-spec : {M : Type 1} → statement M
 named-constraint-spec =
     tie.close
     (tie.spec
+    keeps-state-requires
     read-row-requires
     row-before-requires
     two-before-requires

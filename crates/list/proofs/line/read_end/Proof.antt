@@ -1,39 +1,40 @@
--- `list::line::read_end` meets its contract: the newline.
+-- `list::line::read_end` meets its contract: the newline is there, another character, or none.
+use mathlib.Core.Path.{sym, _∙_}
+use native.Mathlib.Numerals.{add-one}
 use borrow.Author.Needs.{needs}
-use Rattle.form.specs.Plain as plain
+use borrow.Author.Tests.{eq-eqb, ne-eqb}
 use Rattle.form.specs.Read.{readText}
-use Rattle.form.proofs.StepLaws.{known}
-use Rattle.list.specs.Line.{lineEnd, closed}
+use Rattle.form.proofs.StepLaws.{char-in, char-past}
+use Rattle.list.specs.Line.{closed}
 use Rattle.list.proofs.line.read_end.Statement.{statement}
 use Rattle.list.proofs.line.read_end.Tie as tie
-
-slice-aggregate-read-text : tie.Need-slice-aggregate-read-text
-slice-aggregate-read-text c = search needs
-
-read-text-requires : tie.Need-read-text-requires
-read-text-requires c κs = search needs
-
-enum-known-matched : tie.Need-enum-known-matched
-enum-known-matched c = search needs
-
-enum-known-matched-2 : tie.Need-enum-known-matched-2
-enum-known-matched-2 c = search needs
 
 returns : tie.Need-returns
 unfolding closed readText
 returns c =
-    let call = c .before .before .before in
-    let a = call .before .before .before .args in
-    rw (known plain.matched {x = readText lineEnd (a .t .now) (a .p)} (c .before .matched .given .1) (call .read-text .ensures))
+    let a = c .before .args in
+    rw (char-past (a .t .now) (a .p) (c .if1 .taken))
 
 returns-2 : tie.Need-returns-2
 unfolding closed readText
 returns-2 c =
-    let call = c .before .before .before in
-    let a = call .before .before .before .args in
-    rw (known plain.matched {x = readText lineEnd (a .t .now) (a .p)} (c .before .matched2 .given .1) (call .read-text .ensures))
+    let a = c .before .before .before .args in
+    let here = char-in (a .t .now) (a .p) (search needs) in
+    rw (ne-eqb _ 10 (λ e. c .if2 .taken (sym here ∙ e)))
+
+returns-3 : tie.Need-returns-3
+unfolding closed readText
+returns-3 c =
+    let a = c .before .before .before .args in
+    let here = char-in (a .t .now) (a .p) (search needs) in
+    rw (eq-eqb _ 10 (here ∙ c .if2 .left), add-one)
 
 pub read-end-spec : {M : Type 1} → statement M
 read-end-spec =
     tie.close
-    (tie.spec slice-aggregate-read-text read-text-requires enum-known-matched enum-known-matched-2 returns returns-2)
+    (tie.spec
+    returns
+    (λ c. search needs)
+    returns-2
+    (λ c. search needs)
+    returns-3)

@@ -6,30 +6,6 @@ use Rattle.list.proofs.PartLaws.{line-parts}
 use Rattle.list.proofs.line.read_line.Statement.{statement}
 use Rattle.list.proofs.line.read_line.Tie as tie
 
-read-head-requires : tie.Need-read-head-requires
-read-head-requires c κs = search needs
-
-enum-known-head : tie.Need-enum-known-head
-enum-known-head c = search needs
-
-enum-known-head-2 : tie.Need-enum-known-head-2
-enum-known-head-2 c = search needs
-
-read-ranges-requires : tie.Need-read-ranges-requires
-read-ranges-requires c κs = search needs
-
-enum-known-ranges : tie.Need-enum-known-ranges
-enum-known-ranges c = search needs
-
-enum-known-ranges-2 : tie.Need-enum-known-ranges-2
-enum-known-ranges-2 c = search needs
-
-fields-of-requires : tie.Need-fields-of-requires
-fields-of-requires c κs = search needs
-
-read-end-requires : tie.Need-read-end-requires
-read-end-requires c κs = search needs
-
 returns : tie.Need-returns
 returns c = rw (line-parts, known headRead (c .before .head .given .1) (c .before .before .before .read-head .ensures))
 
@@ -53,14 +29,14 @@ pub read-line-spec : {M : Type 1} → statement M
 read-line-spec =
     tie.close
     (tie.spec
-    read-head-requires
-    enum-known-head
-    enum-known-head-2
-    read-ranges-requires
-    enum-known-ranges
-    enum-known-ranges-2
-    fields-of-requires
-    read-end-requires
+    (λ c κs. search needs)
+    (λ c. search needs)
+    (λ c. search needs)
+    (λ c κs. search needs)
+    (λ c. search needs)
+    (λ c. search needs)
+    (λ c κs. search needs)
+    (λ c κs. search needs)
     returns
     returns-2
     returns-3)
