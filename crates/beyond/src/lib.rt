@@ -125,15 +125,15 @@ pub fn beyond_is(t: &[u8], row: usize, stamp: u32, s: State, c: Claim) -> bool
 {
     let mut rest = beyond_by(c);
     let mut acc = small(0);
-    let mut i: u8 = 0;
-    while i <= OUT_LAST {
+    let mut j: u8 = 0;
+    while j <= OUT_LAST {
         let byte = rest.top;
         rest = push(rest, 0);
         acc = push(acc, byte);
-        if !out_is(t, row + i as usize, stamp, s, c, i, byte, acc) {
+        if !out_is(t, row + j as usize, stamp, s, c, j, byte, acc) {
             return false;
         }
-        i += 1;
+        j += 1;
     }
     true
 }

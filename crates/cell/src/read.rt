@@ -30,7 +30,7 @@ fn low32_at(t: &[u8], p: usize) -> u32
     join_2_2(low16_at(t, p + 2), low16_at(t, p))
 }
 
-fn low64_at(t: &[u8], p: usize) -> u64
+pub fn low64_at(t: &[u8], p: usize) -> u64
     requires { ⌜ p + 8 ≤ length (now t) ⌝ }
     ensures { λ r. ⌜ r ≡ lowNum (now (t .entry)) p 8 ⌝ }
 {

@@ -1,5 +1,6 @@
-// Big-endian numbers of 1, 3, 4 and 17 bytes, written to a lent slice, whose other bytes stay. Only crates of this
-// repository call these writers: each asks that there is room.
+// Big-endian numbers of 1, 2, 3, 4, 8 and 17 bytes, written to a lent slice, whose other bytes stay. A number is turned round and then stored from its last
+// byte on: the compiler makes one store of bytes in that order, and of bytes in the other order as many as there are. Only crates of this repository call these
+// writers: each asks that there is room.
 ghost use mathlib.Core.Path.{_≡_};
 ghost use Prim.Native.Nat.{_+_, _≤_};
 ghost use lib.ListN.{length};
@@ -11,6 +12,8 @@ use crate::swap::swap16;
 use crate::swap::swap32;
 use crate::swap::swap64;
 use number::wide::Wide;
+
+// The bytes of v from `at` on, the last one first.
 
 fn low16(buf: &mut [u8], at: usize, v: u16)
     requires { ⌜ at + 2 ≤ length (now buf) ⌝ }

@@ -170,12 +170,12 @@ pub(crate) fn within_is(t: &[u8], row: usize, stamp: u32, s: State, c: Claim) ->
     ensures { λ r. ⌜ r ≡ cycleStands (rowAt (now (t .entry))) row stamp (state s) (plainClaim c) ⌝ }
 {
     let m = make(stamp, s, c);
-    let mut i: u8 = 0;
-    while i <= IN_LAST {
-        if !in_is(t, row + i as usize, m, i) {
+    let mut j: u8 = 0;
+    while j <= IN_LAST {
+        if !in_is(t, row + j as usize, m, j) {
             return false;
         }
-        i += 1;
+        j += 1;
     }
     true
 }

@@ -42,7 +42,7 @@ large-is-digit c h l =
     (both-intro (leb code-a c) (leb c code-f) (le-leb code-a c h) (le-leb c code-f l))
 
 -- and no other
-pub digit-cases : (c : ℕ) → isDigit c ≡ true → ((code-0 ≤ c) × (c ≤ code-9)) ⊎ ((code-a ≤ c) × (c ≤ code-f))
+digit-cases : (c : ℕ) → isDigit c ≡ true → ((code-0 ≤ c) × (c ≤ code-9)) ⊎ ((code-a ≤ c) × (c ≤ code-f))
 unfolding isDigit
 digit-cases c e =
     ⊎-elim

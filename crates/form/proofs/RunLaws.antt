@@ -22,6 +22,10 @@ use Rattle.form.proofs.TableLaws.{no-digit, a-digit}
 -- ---- runs
 
 module _ (t : List ℕ) where
+  -- what the digits spell with that at p behind them
+  abbrev after : (v p : ℕ) → ℕ
+  after v p = v * 16 + digitOf (charAt t p)
+
   -- there is no digit more: as many were read as there may be, or the text ends
   pub run-last : (n v p : ℕ) → (p < length t → n ≡ 0) → run n t v p ≡ record { value = v; next = p }
   unfolding run
@@ -35,10 +39,10 @@ module _ (t : List ℕ) where
   pub run-short : (n k v p : ℕ) → run n t v p .next < p + n → run (n + k) t v p ≡ run n t v p
   unfolding run
   run-short zero k v p h = absurd (omega arith)
-  run-short (suc n) k v p h = by (isDigit (charAt t p)) refl (run-short n k (v * 16 + digitOf (charAt t p)) (suc p))
+  run-short (suc n) k v p h = by (isDigit (charAt t p)) refl (run-short n k (after v p) (suc p))
     where
       by : (b : Bool) → isDigit (charAt t p) ≡ b
-          → (run n t (v * 16 + digitOf (charAt t p)) (suc p) .next < suc p + n → run (n + k) t (v * 16 + digitOf (charAt t p)) (suc p) ≡ run n t (v * 16 + digitOf (charAt t p)) (suc p))
+          → (run n t (after v p) (suc p) .next < suc p + n → run (n + k) t (after v p) (suc p) ≡ run n t (after v p) (suc p))
           → run (suc n + k) t v p ≡ run (suc n) t v p
       by true i rest =
           let e = run-on t n v p i in
@@ -49,10 +53,10 @@ module _ (t : List ℕ) where
   pub run-full : (n k v p : ℕ) → p + n ≤ run n t v p .next → run (n + k) t v p ≡ run k t (run n t v p .value) (run n t v p .next)
   unfolding run
   run-full zero k v p h = rw zero-add
-  run-full (suc n) k v p h = by (isDigit (charAt t p)) refl (run-full n k (v * 16 + digitOf (charAt t p)) (suc p))
+  run-full (suc n) k v p h = by (isDigit (charAt t p)) refl (run-full n k (after v p) (suc p))
     where
       by : (b : Bool) → isDigit (charAt t p) ≡ b
-          → (suc p + n ≤ run n t (v * 16 + digitOf (charAt t p)) (suc p) .next → run (n + k) t (v * 16 + digitOf (charAt t p)) (suc p) ≡ run k t (run n t (v * 16 + digitOf (charAt t p)) (suc p) .value) (run n t (v * 16 + digitOf (charAt t p)) (suc p) .next))
+          → (suc p + n ≤ run n t (after v p) (suc p) .next → run (n + k) t (after v p) (suc p) ≡ run k t (run n t (after v p) (suc p) .value) (run n t (after v p) (suc p) .next))
           → run (suc n + k) t v p ≡ run k t (run (suc n) t v p .value) (run (suc n) t v p .next)
       by true i rest =
           let e = run-on t n v p i in

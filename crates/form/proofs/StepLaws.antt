@@ -1,4 +1,4 @@
--- Laws of the readers, one character at a time, as the code reads them.
+-- Laws of the readers as the code reads: one character, too few digits or enough, and what a call answered.
 use Prim.Native.Nat.{ℕ, zero, suc, _+_, _≤_, _<_}
 use mathlib.Core.Bool.{false}
 use mathlib.Core.List.{List, [], _∷_}

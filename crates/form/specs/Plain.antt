@@ -1,6 +1,7 @@
--- What the readers' answers say.
-use Prim.Native.Nat.{ℕ}
+-- What a name is, and what the readers' answers say.
+use Prim.Native.Nat.{ℕ, _^_, _<_}
 use mathlib.Core.List.{List}
+use mathlib.Core.Path.{_≡_}
 use Rattle.long.specs.Halves.{whole}
 use Rattle.cell.specs.Low.{le}
 use Rattle.form.specs.Read.{Read, got, stop, Run}
@@ -15,6 +16,10 @@ use Rattle.form.specs.declared.Number.the-variants as n
 -- the most digits of a number below 2^128
 abbrev pub mostDigits : ℕ
 mostDigits = 32
+
+-- a name has at most 7 characters, and its bound is the first number of more
+abbrev pub Bounded : Name → Type 0
+Bounded n = (n .bound ≡ 256 ^ n .len) × (n .len < 8)
 
 -- the characters of a name
 abbrev pub nameText : Name → List ℕ

@@ -35,11 +35,6 @@ unfoldable pub readText : (name t : List ℕ) → (p : ℕ) → Read Unit
 readText [] t p = got tt p
 readText (c ∷ cs) t p = pick (eqb (charAt t p) c) (readText cs t (suc p)) (stop p)
 
--- so many characters from place p on as one number, the first counting least
-unfoldable pub joined : (n : ℕ) → (t : List ℕ) → (p : ℕ) → ℕ
-joined zero t p = 0
-joined (suc n) t p = getD t p 0 + 256 * joined n t (suc p)
-
 -- a run of digits: the number that they spell and the place after them
 pub record Run : Type 0 where
   pub value : ℕ

@@ -6,10 +6,11 @@ ghost use mathlib.Core.Path.{_≡_};
 ghost use Prim.Native.Nat.{_+_, _*_, _%_, _^_, _≤_, _<_};
 ghost use lib.Dec.{eqb, leb};
 ghost use lib.ListN.{length};
-ghost use Rattle.cell.specs.Low.{le};
-ghost use Rattle.form.specs.Plain.{mostDigits, nameText, matched, halfRun, digitRun, number};
-ghost use Rattle.form.specs.Read.{charAt, readText, joined, run, lastPlace, readDigits, readNumber};
+ghost use Rattle.cell.specs.Low.{le, lowNum};
+ghost use Rattle.form.specs.Plain.{mostDigits, Bounded, nameText, matched, halfRun, digitRun, number};
+ghost use Rattle.form.specs.Read.{charAt, readText, run, lastPlace, readDigits, readNumber};
 ghost use Rattle.form.specs.Table.{counts, digitTable};
+use cell::read::low64_at;
 use long::Long;
 use long::push_digit;
 use long::small;
@@ -59,33 +60,10 @@ pub fn digit_table() -> [u8; 256]
     d
 }
 
-// Four characters as one number, the first counting least.
-fn join(a: u8, b: u8, c: u8, d: u8) -> u32
-    ensures { λ r. ⌜ r ≡ a + 256 * (b + 256 * (c + 256 * d)) ⌝ }
-{
-    (a as u32) + (b as u32) * 256 + (c as u32) * 65536 + (d as u32) * 16777216
-}
-
-// Those from p on.
-fn low4(t: &[u8], p: usize) -> u32
-    requires { ⌜ p + 4 ≤ length (now t) ⌝ }
-    ensures { λ r. ⌜ r ≡ joined 4 (now (t .entry)) p ⌝ }
-{
-    join(t[p], t[p + 1], t[p + 2], t[p + 3])
-}
-
-// And eight.
-fn low8(t: &[u8], p: usize) -> u64
-    requires { ⌜ p + 8 ≤ length (now t) ⌝ }
-    ensures { λ r. ⌜ r ≡ joined 8 (now (t .entry)) p ⌝ }
-{
-    (low4(t, p) as u64) + (low4(t, p + 4) as u64) * 4294967296
-}
-
 // Whether eight characters from p on are there and begin with the name's.
 fn stands(t: &[u8], p: usize, name: Name) -> bool
-    requires { ⌜ (name .bound ≡ 256 ^ name .len) × (name .len < 8) ⌝ }
-    ensures { λ r. ⌜ r ≡ (leb (p + 8) (length (now (t .entry))) && eqb (joined 8 (now (t .entry)) p % 256 ^ name .len) (name .number)) ⌝ }
+    requires { ⌜ Bounded name ⌝ }
+    ensures { λ r. ⌜ r ≡ (leb (p + 8) (length (now (t .entry))) && eqb (lowNum (now (t .entry)) p 8 % 256 ^ name .len) (name .number)) ⌝ }
 {
     if t.len() <= p {
         return false;
@@ -93,7 +71,7 @@ fn stands(t: &[u8], p: usize, name: Name) -> bool
     if t.len() - p < 8 {
         return false;
     }
-    low8(t, p) % name.bound == name.number
+    low64_at(t, p) % name.bound == name.number
 }
 
 // The characters of a name from p on, one by one.
@@ -119,7 +97,7 @@ fn walk_name(t: &[u8], p: usize, number: u64, len: usize) -> Matched
 
 // The characters of a name from p on: in one comparison where they stand there, else one by one to the first that differs.
 pub fn read_name(t: &[u8], p: usize, name: Name) -> Matched
-    requires { ⌜ (name .bound ≡ 256 ^ name .len) × (name .len < 8) ⌝ }
+    requires { ⌜ Bounded name ⌝ }
     ensures { λ r. ⌜ matched r ≡ readText (nameText name) (now (t .entry)) p ⌝ }
 {
     if stands(t, p, name) {

@@ -27,11 +27,6 @@ field-room f t p e =
     let read = then-got (readText (f .name) t p) (λ u q. readKind (f .kind) t q) e in
     kind-read t (f .kind) (read .1) (read .3) .0
 
--- a name and then a number of the kind are the field
-pub field-got : (f : Field) (t : List ℕ) (p : ℕ) {u : Unit} {v q r : ℕ} → readText (f .name) t p ≡ got u q → readKind (f .kind) t q ≡ got v r → readField f t p ≡ got v r
-unfolding readField
-field-got f t p e h = rw (e, h)
-
 -- where that is room for 64 bits at most, the last half holds it
 pub field-half : (f : Field) (t : List ℕ) (p : ℕ) (x : Long) {q : ℕ} → readField f t p ≡ got (whole x) q → room (f .kind) ≤ 2 ^ 64
     → (x .lo ≡ whole x) × (x .lo < room (f .kind))

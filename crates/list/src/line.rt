@@ -78,6 +78,26 @@ pub enum Line {
     Stop(usize),
 }
 
+// cn.
+fn read_cn(d: &[u8; 256], t: &[u8], p: usize) -> Number
+    requires { ⌜ now d ≡ digitTable ⌝ }
+    ensures { λ r. ⌜ number r ≡ readField cnField (now (t .entry)) p ⌝ }
+{
+    let named = read_name(
+        t,
+        p,
+        Name {
+            number: CN,
+            bound: BOUND_3,
+            len: 3,
+        },
+    );
+    match named {
+        Matched::Stop(q) => Number::Stop(q),
+        Matched::To(q) => read_number(d, t, q, CN_DIGITS),
+    }
+}
+
 // op.
 fn read_op(d: &[u8; 256], t: &[u8], p: usize) -> Number
     requires { ⌜ now d ≡ digitTable ⌝ }
@@ -98,37 +118,23 @@ fn read_op(d: &[u8; 256], t: &[u8], p: usize) -> Number
     }
 }
 
-// cn and op.
+// Both.
 fn read_head(d: &[u8; 256], t: &[u8], p: usize) -> Head
     requires { ⌜ now d ≡ digitTable ⌝ }
     ensures { λ r. ⌜ headRead r ≡ readTwo cnField opField (now (t .entry)) p ⌝ }
 {
-    let named = read_name(
-        t,
-        p,
-        Name {
-            number: CN,
-            bound: BOUND_3,
-            len: 3,
-        },
-    );
-    match named {
-        Matched::Stop(q) => Head::Stop(q),
-        Matched::To(q) => {
-            let cn = read_number(d, t, q, CN_DIGITS);
-            match cn {
+    let cn = read_cn(d, t, p);
+    match cn {
+        Number::Stop(q) => Head::Stop(q),
+        Number::Got(cn, q) => {
+            let op = read_op(d, t, q);
+            match op {
                 Number::Stop(r) => Head::Stop(r),
-                Number::Got(cn, r) => {
-                    let op = read_op(d, t, r);
-                    match op {
-                        Number::Stop(s) => Head::Stop(s),
-                        Number::Got(op, s) => Head::Got {
-                            cn: cn.lo as u32,
-                            op: op.lo as u8,
-                            next: s,
-                        },
-                    }
-                }
+                Number::Got(op, r) => Head::Got {
+                    cn: cn.lo as u32,
+                    op: op.lo as u8,
+                    next: r,
+                },
             }
         }
     }

@@ -4,9 +4,11 @@ use Rattle.form.specs.Plain.{matched, number}
 use Rattle.form.specs.Read.{Read, got, stop}
 use Rattle.form.specs.declared.Matched.{Matched}
 use Rattle.form.specs.declared.Matched.the-variants.{To, Stop}
-use Rattle.promises.proofs.NoSecond.{NoSecond, no-second, equation, given, value, ref, answer, by}
-use Rattle.form.proofs.read_text.Reads as read-text
-use Rattle.form.proofs.read_field.Reads as read-field
+use Rattle.promises.proofs.NoSecond.{NoSecond, no-second, equation, given, ref, answer, by}
+use Rattle.form.proofs.digit_table.Reads as digit-table
+use Rattle.form.proofs.read_name.Reads as read-name
+use Rattle.form.proofs.read_number.Reads as read-number
+use Rattle.form.proofs.read_pair.Reads as read-pair
 
 -- the code's answer from the one that the definitions read in it
 abbrev codeMatched : Read Unit → Matched
@@ -17,9 +19,16 @@ again : (m : Matched) → codeMatched (matched m) ≡ m
 again (To p) = refl
 again (Stop p) = refl
 
--- characters and numbers that are read
-pub one-read-text : NoSecond read-text.Post (ref (value (ref given))) answer
-one-read-text = no-second _ (λ κ a v e p. sym (again v) ∙ ap codeMatched p) (λ a b. refl)
+-- the table of digits
+pub one-digit-table : NoSecond digit-table.Post given answer
+one-digit-table = equation (λ a b. refl)
 
-pub one-read-field : NoSecond read-field.Post (ref (value (ref given))) (by number)
-one-read-field = equation (λ a b. refl)
+-- names and numbers that are read
+pub one-read-name : NoSecond read-name.Post (ref given) answer
+one-read-name = no-second _ (λ κ a v e p. sym (again v) ∙ ap codeMatched p) (λ a b. refl)
+
+pub one-read-number : NoSecond read-number.Post (ref (ref given)) (by number)
+one-read-number = equation (λ a b. refl)
+
+pub one-read-pair : NoSecond read-pair.Post (ref (ref given)) (by number)
+one-read-pair = equation (λ a b. refl)

@@ -6,8 +6,8 @@ use Rattle.list.proofs.line.read_line.Reads as read-line
 use Rattle.list.proofs.next_line.Reads as next-line
 
 -- a line by its fields, and the next instruction of a list
-pub one-read-line : NoSecond read-line.Post (ref given) (by lineRead)
+pub one-read-line : NoSecond read-line.Post (ref (ref given)) (by lineRead)
 one-read-line = equation (λ a b. refl)
 
-pub one-next-line : NoSecond next-line.Post (ref given) answer
+pub one-next-line : NoSecond next-line.Post (ref (ref given)) answer
 one-next-line = equation (λ a b. refl)

@@ -1,16 +1,19 @@
-// A row written to a lent buffer, cell by cell; the bytes outside of it stay. Only crates of this repository call `put_row`: it asks that
-// there is room for the row.
+// A row written to a lent buffer: cells that stand side by side are stored as one number, and the bytes outside of the row stay. Only crates of this
+// repository call `put_row`: it asks that there is room for the row.
 ghost use mathlib.Core.Path.{_≡_};
-ghost use Prim.Native.Nat.{_+_, _*_, _≤_, _<_};
+ghost use Prim.Native.Nat.{_+_, _*_, _≤_};
 ghost use lib.ListN.{length};
 ghost use lib.Seq.{sets};
-ghost use mathlib.Core.List.{_++_};
 ghost use Rattle.number.specs.Cells.{encode};
 ghost use Rattle.number.specs.Num.{be};
 ghost use Rattle.model.specs.Columns.{columns, cellsIn, widths, rowBytes};
 ghost use Rattle.row.specs.Plain.{plain};
 ghost use Rattle.writer.specs.Stores.{partStored};
-use cell::write::put_u8;
+use cell::join::join_1_1;
+use cell::join::join_1_3;
+use cell::join::join_2_6;
+use cell::join::join_3_3;
+use cell::join::join_4_4;
 use cell::write::put_u16;
 use cell::write::put_u24;
 use cell::write::put_u32;
@@ -20,38 +23,8 @@ use model::ROW_BYTES;
 use row::cells::Row;
 use row::place;
 
-// Cells as one number.
-
-fn two(a: u8, b: u8) -> u16
-    ensures { λ r. ⌜ be 2 r ≡ be 1 a ++ be 1 b ⌝ }
-{
-    (a as u16) * 256 + (b as u16)
-}
-
-fn one_three(a: u8, b: u32) -> u32
-    ensures { λ r. ⌜ be 4 r ≡ be 1 a ++ be 3 b ⌝ }
-{
-    (a as u32) * 16777216 + b % 16777216
-}
-
-fn eight(a: u32, b: u32) -> u64
-    ensures { λ r. ⌜ be 8 r ≡ be 4 a ++ be 4 b ⌝ }
-{
-    (a as u64) * 4294967296 + (b as u64)
-}
-
-fn six(a: u32, b: u32) -> u64
-    ensures { λ r. ⌜ (be 6 r ≡ be 3 a ++ be 3 b) × (r < 281474976710656) ⌝ }
-{
-    ((a % 16777216) as u64) * 16777216 + (b % 16777216) as u64
-}
-
-fn two_six(a: u16, b: u64) -> u64
-    requires { ⌜ b < 281474976710656 ⌝ }
-    ensures { λ r. ⌜ be 8 r ≡ be 2 a ++ be 6 b ⌝ }
-{
-    (a as u64) * 281474976710656 + b
-}
+// What is past the last number of three bytes. Of a cell of three bytes the last three count.
+const THREE_BYTES: u32 = number::FIRST_OF_FOUR;
 
 // Cells that stand side by side, the first of them o bytes after p.
 
@@ -59,40 +32,36 @@ fn put_1_1(buf: &mut [u8], p: usize, o: usize, a: u8, b: u8)
     requires { ⌜ p + o + 2 ≤ length (now buf) ⌝ }
     ensures { λ _. ⌜ now (buf .exit) ≡ sets (sets (now (buf .entry)) (p + o) (be 1 a)) (p + (o + 1)) (be 1 b) ⌝ }
 {
-    put_u16(buf, p + o, two(a, b));
+    put_u16(buf, p + o, join_1_1(a, b));
 }
 
 fn put_1_3(buf: &mut [u8], p: usize, o: usize, a: u8, b: u32)
     requires { ⌜ p + o + 4 ≤ length (now buf) ⌝ }
     ensures { λ _. ⌜ now (buf .exit) ≡ sets (sets (now (buf .entry)) (p + o) (be 1 a)) (p + (o + 1)) (be 3 b) ⌝ }
 {
-    put_u32(buf, p + o, one_three(a, b));
+    put_u32(buf, p + o, join_1_3(a, b % THREE_BYTES));
 }
 
 fn put_4_4(buf: &mut [u8], p: usize, o: usize, a: u32, b: u32)
     requires { ⌜ p + o + 8 ≤ length (now buf) ⌝ }
     ensures { λ _. ⌜ now (buf .exit) ≡ sets (sets (now (buf .entry)) (p + o) (be 4 a)) (p + (o + 4)) (be 4 b) ⌝ }
 {
-    put_u64(buf, p + o, eight(a, b));
+    put_u64(buf, p + o, join_4_4(a, b));
 }
 
 fn put_1_3_4(buf: &mut [u8], p: usize, o: usize, a: u8, b: u32, c: u32)
     requires { ⌜ p + o + 8 ≤ length (now buf) ⌝ }
     ensures { λ _. ⌜ now (buf .exit) ≡ sets (sets (sets (now (buf .entry)) (p + o) (be 1 a)) (p + (o + 1)) (be 3 b)) (p + (o + 1 + 3)) (be 4 c) ⌝ }
 {
-    let front = one_three(a, b);
-    let all = eight(front, c);
-    put_u64(buf, p + o, all);
+    put_u64(buf, p + o, join_4_4(join_1_3(a, b % THREE_BYTES), c));
 }
 
 fn put_1_1_3_3(buf: &mut [u8], p: usize, o: usize, a: u8, b: u8, c: u32, d: u32)
     requires { ⌜ p + o + 8 ≤ length (now buf) ⌝ }
     ensures { λ _. ⌜ now (buf .exit) ≡ sets (sets (sets (sets (now (buf .entry)) (p + o) (be 1 a)) (p + (o + 1)) (be 1 b)) (p + (o + 1 + 1)) (be 3 c)) (p + (o + 1 + 1 + 3)) (be 3 d) ⌝ }
 {
-    let front = two(a, b);
-    let back = six(c, d);
-    let all = two_six(front, back);
-    put_u64(buf, p + o, all);
+    let back = join_3_3(c % THREE_BYTES, d % THREE_BYTES);
+    put_u64(buf, p + o, join_2_6(join_1_1(a, b), back));
 }
 
 // The parts of x in the row whose first byte is at p.

@@ -4,20 +4,21 @@ use std::hint::black_box;
 use std::mem;
 use std::time::Duration;
 
-use reference::ROW_BYTES;
+use reference::{MAX_ROWS, ROW_BYTES};
 
 use crate::Outcome;
+use crate::bounds::Bounds;
 use crate::call::{Answer, Call};
 use crate::input::{Input, Lent, MOST_IN_BOUNDS};
 use crate::timing::{Budget, Times, quickest};
 
-/// What a measured time must not pass.
-#[derive(Clone, Copy, Debug, PartialEq)]
-pub enum Floor {
-    /// So many times what the reference takes.
-    Ratio(f64),
-    /// So long.
-    Time(Duration),
+/// What a bound on the library's time goes by.
+#[derive(Clone, Copy, Debug, PartialEq, Eq)]
+pub enum By {
+    /// The reference's time for the same.
+    Reference,
+    /// The library's own time for the same call on one context, in the same run.
+    OneContext,
 }
 
 /// What the library is measured beside.
@@ -38,10 +39,8 @@ pub struct Case {
     pub input: Input,
     /// What it is measured beside.
     pub beside: Beside,
-    /// What the library must keep, or nothing is recorded.
-    pub floor: Option<Floor>,
-    /// The ratio that the library should reach.
-    pub target: Option<f64>,
+    /// The bounds on the library's time, and what they go by.
+    pub bounds: Option<(By, Bounds)>,
 }
 
 /// The refusal of a list that makes more rows than a trace may have.
@@ -61,9 +60,14 @@ pub struct Measured {
 }
 
 impl Case {
-    /// A call on an input beside the reference, without floor and target.
+    /// A call on an input beside the reference, without bounds.
     pub fn new(call: Call, input: Input) -> Case {
-        Case { call, input, beside: Beside::Reference, floor: None, target: None }
+        Case { call, input, beside: Beside::Reference, bounds: None }
+    }
+
+    /// The same call on one context, a full trace.
+    pub fn on_one_context(&self) -> Case {
+        Case::new(self.call, Input::One { rows: MAX_ROWS })
     }
 
     /// The name by which it is asked for: the call and the input.
@@ -165,13 +169,22 @@ impl Measured {
         time.as_secs_f64() * 1e9 / self.units as f64
     }
 
-    /// Whether the floor is kept, where there is one.
-    pub fn keeps_floor(&self) -> bool {
-        match self.case.floor {
-            None => true,
-            Some(Floor::Ratio(most)) => self.ratio() <= most,
-            Some(Floor::Time(most)) => self.times.library < most,
+    /// The library's time by what a bound goes by, if that is among the cases of a run.
+    pub fn ratio_by(&self, by: By, run: &[Measured]) -> Option<f64> {
+        match by {
+            By::Reference => Some(self.ratio()),
+            By::OneContext => {
+                let name = self.case.on_one_context().name();
+                let one = run.iter().find(|measured| measured.case.name() == name)?;
+                Some(self.per_unit(self.times.library) / one.per_unit(one.times.library))
+            }
         }
+    }
+
+    /// Whether the floor, where there is one, is seen from a run to be kept.
+    pub fn keeps_floor(&self, run: &[Measured]) -> bool {
+        let Some((by, bounds)) = self.case.bounds else { return true };
+        self.ratio_by(by, run).is_some_and(|ratio| bounds.keeps_floor(ratio))
     }
 }
 
@@ -179,9 +192,10 @@ impl Measured {
 mod tests {
     use super::*;
 
-    fn measured(library: u64, other: u64, floor: Option<Floor>) -> Measured {
+    /// A check of an input that took so many milliseconds.
+    fn measured(input: Input, library: u64, other: u64, bounds: Option<(By, Bounds)>) -> Measured {
         let times = Times { library: Duration::from_millis(library), other: Duration::from_millis(other) };
-        let case = Case { floor, ..Case::new(Call::Check, Input::Interleaved) };
+        let case = Case { bounds, ..Case::new(Call::Check, input) };
         Measured { case, times, units: 1_000, unit: "row" }
     }
 
@@ -200,23 +214,28 @@ mod tests {
     }
 
     #[test]
-    fn a_floor_of_the_ratio_is_kept_up_to_it() {
-        let floor = Some(Floor::Ratio(1.25));
-        assert!(measured(125, 100, floor).keeps_floor());
-        assert!(!measured(126, 100, floor).keeps_floor());
-        assert!(measured(126, 100, None).keeps_floor());
+    fn a_floor_by_the_reference_is_kept_up_to_it() {
+        let bounds = Some((By::Reference, Bounds { floor: 1.25, target: 1.0 }));
+        assert!(measured(Input::Rising, 125, 100, bounds).keeps_floor(&[]));
+        assert!(!measured(Input::Rising, 126, 100, bounds).keeps_floor(&[]));
+        assert!(measured(Input::Rising, 126, 100, None).keeps_floor(&[]));
     }
 
     #[test]
-    fn a_floor_of_the_time_is_kept_below_it() {
-        let floor = Some(Floor::Time(Duration::from_secs(1)));
-        assert!(measured(999, 1, floor).keeps_floor());
-        assert!(!measured(1_000, 1_000, floor).keeps_floor());
+    fn a_floor_by_one_context_is_of_the_librarys_own_times() {
+        let bounds = Some((By::OneContext, Bounds { floor: 1.5, target: 1.1 }));
+        let one = measured(Input::One { rows: MAX_ROWS }, 100, 1, None);
+        let run = [measured(Input::Falling, 1, 1, None), one];
+        assert!(measured(Input::Rising, 150, 1, bounds).keeps_floor(&run));
+        assert!(!measured(Input::Rising, 151, 1_000, bounds).keeps_floor(&run));
+        assert!(!measured(Input::Rising, 1, 1, bounds).keeps_floor(&run[..1]));
+        let fill = Measured { case: Case { bounds, ..Case::new(Call::Fill, Input::Rising) }, ..one };
+        assert_eq!(fill.ratio_by(By::OneContext, &run), None);
     }
 
     #[test]
     fn a_time_is_told_by_its_units() {
-        let measured = measured(3, 2, None);
+        let measured = measured(Input::Rising, 3, 2, None);
         assert_eq!(measured.per_unit(measured.times.library), 3_000.0);
         assert_eq!(measured.ratio(), 1.5);
     }

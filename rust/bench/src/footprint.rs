@@ -7,7 +7,9 @@ use crate::case::Case;
 use crate::{heap, stack};
 
 /// Every call must do with less stack than this, in bytes.
-pub const STACK_FLOOR: usize = 16 * 1024;
+pub const STACK_FLOOR: usize = 4_096;
+/// Every call should do with less stack than this, in bytes.
+pub const STACK_TARGET: usize = 3_584;
 
 /// The most that a call took on any of its inputs.
 #[derive(Clone, Copy, Default)]

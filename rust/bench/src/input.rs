@@ -5,6 +5,7 @@ use reference::list::Fields;
 use reference::{MAX_ROWS, ROW_BYTES};
 
 use crate::Outcome;
+use crate::block::Block;
 use crate::program::{self, Program};
 use crate::random::Random;
 
@@ -18,6 +19,8 @@ pub const MOST_IN_BOUNDS: usize = in_bounds_of(MAX_ROWS);
 const MOST_OUT_OF_BOUNDS: usize = cycles_of(MAX_ROWS, 17);
 /// The contexts of the instructions out of bounds, in turn.
 const FAR_CONTEXTS: u32 = 7;
+/// The contexts of `Input::Mixed`.
+const MIXED_CONTEXTS: u32 = 2_000;
 /// The context of the first instruction of `Input::FarBack`, and of no other.
 pub const FIRST_CONTEXT: u32 = 1;
 /// What a buffer holds before it is filled, so that a zero that is not written shows.
@@ -39,8 +42,12 @@ pub enum Input {
     One { rows: usize },
     /// 64 contexts in turn.
     Interleaved,
+    /// A block of calls, whose trace has so many rows.
+    Block { rows: usize },
     /// All instructions out of bounds.
     OutOfBounds,
+    /// Each instruction of a context taken at random out of 2,000.
+    Mixed,
     /// Each instruction of another context, with numbers that rise.
     Rising,
     /// Each instruction of another context, with numbers that fall.
@@ -67,7 +74,9 @@ impl Input {
         match self {
             Input::One { .. } => ("one", "one context"),
             Input::Interleaved => ("64", "64 contexts interleaved"),
+            Input::Block { .. } => ("block", "a block of calls"),
             Input::OutOfBounds => ("oob", "all out of bounds"),
+            Input::Mixed => ("mixed", "2,000 contexts in random order"),
             Input::Rising => ("rising", "21,845 contexts, rising"),
             Input::Falling => ("falling", "21,845 contexts, falling"),
             Input::FarBack => ("far", "the context's only cycle is the first"),
@@ -82,9 +91,14 @@ impl Input {
         match self {
             Input::One { rows } => in_turn(1, in_bounds_of(rows), random),
             Input::Interleaved => in_turn(64, MOST_IN_BOUNDS, random),
+            Input::Block { rows } => {
+                let mut block = Block::new();
+                lines(in_bounds_of(rows), |_| block.step(random))
+            }
             Input::OutOfBounds => {
                 lines(MOST_OUT_OF_BOUNDS, |step| program::out_of_bounds(1 + step as u32 % FAR_CONTEXTS, random))
             }
+            Input::Mixed => mixed(random),
             Input::Rising => lines(MOST_IN_BOUNDS, |step| Program::new(1 + step as u32).step(random)),
             Input::Falling => lines(MOST_IN_BOUNDS, |step| Program::new((MOST_IN_BOUNDS - step) as u32).step(random)),
             Input::FarBack => far_back(random),
@@ -122,6 +136,12 @@ fn lines(steps: usize, fields: impl FnMut(usize) -> Fields) -> Vec<u8> {
 fn in_turn(contexts: u32, steps: usize, random: &mut Random) -> Vec<u8> {
     let mut programs: Vec<Program> = (1..=contexts).map(Program::new).collect();
     lines(steps, |step| programs[step % contexts as usize].step(random))
+}
+
+/// Programs of contexts that take steps in random order.
+fn mixed(random: &mut Random) -> Vec<u8> {
+    let mut programs: Vec<Program> = (1..=MIXED_CONTEXTS).map(Program::new).collect();
+    lines(MOST_IN_BOUNDS, |_| programs[random.below(MIXED_CONTEXTS.into()) as usize].step(random))
 }
 
 fn far_back(random: &mut Random) -> Vec<u8> {
@@ -183,15 +203,19 @@ mod tests {
     fn traces_have_the_rows_that_are_said() {
         for rows in [1_000, 4_000, 16_000, MAX_ROWS] {
             assert_eq!(trace(Input::One { rows }).len(), rows * ROW_BYTES);
+            assert_eq!(trace(Input::Block { rows }).len(), rows * ROW_BYTES);
         }
-        for input in [Input::Interleaved, Input::OutOfBounds, Input::Rising, Input::Falling, Input::FarBack] {
+        let full =
+            [Input::Interleaved, Input::OutOfBounds, Input::Mixed, Input::Rising, Input::Falling, Input::FarBack];
+        for input in full {
             assert_eq!(trace(input).len(), MAX_ROWS * ROW_BYTES, "{input:?}");
         }
     }
 
     #[test]
     fn programs_grow_memory_and_touch_it_again() {
-        for input in [Input::One { rows: MAX_ROWS }, Input::Interleaved] {
+        for input in [Input::One { rows: MAX_ROWS }, Input::Interleaved, Input::Block { rows: MAX_ROWS }, Input::Mixed]
+        {
             let trace = trace(input);
             let growing = first_rows(&trace).filter(|row| row.flag == 1).count();
             assert!((MOST_IN_BOUNDS / 100..MOST_IN_BOUNDS / 2).contains(&growing), "{input:?}: {growing} grow");
@@ -204,12 +228,24 @@ mod tests {
         assert_eq!(contexts(&trace(Input::One { rows: 1_000 })), [1; 333]);
         let interleaved = contexts(&trace(Input::Interleaved));
         assert!(interleaved.windows(64).all(|part| part.iter().collect::<HashSet<_>>().len() == 64));
+        let mixed = contexts(&trace(Input::Mixed));
+        assert_eq!(mixed.iter().collect::<HashSet<_>>().len(), 2_000);
+        assert!(!mixed.is_sorted() && mixed[..2_000].iter().collect::<HashSet<_>>().len() < 2_000);
         let all: Vec<u32> = (1..=MOST_IN_BOUNDS as u32).collect();
         assert_eq!(contexts(&trace(Input::Rising)), all);
         assert!(contexts(&trace(Input::Falling)).iter().rev().eq(&all));
         let far_back = contexts(&trace(Input::FarBack));
         assert_eq!(far_back.iter().position(|&cn| cn == FIRST_CONTEXT), Some(0));
         assert_eq!(far_back.iter().filter(|&&cn| cn == FIRST_CONTEXT).count(), 1);
+    }
+
+    /// About one context to 14 instructions, whatever the rows.
+    #[test]
+    fn a_block_has_contexts_in_proportion_to_its_rows() {
+        for (rows, least, most) in [(1_000, 10, 40), (4_000, 70, 115), (16_000, 330, 420), (MAX_ROWS, 1_400, 1_600)] {
+            let of_block: HashSet<u32> = contexts(&trace(Input::Block { rows })).into_iter().collect();
+            assert!((least..=most).contains(&of_block.len()), "{rows} rows: {} contexts", of_block.len());
+        }
     }
 
     #[test]

@@ -2,6 +2,8 @@
 //! with a message and another status than 0 if an answer is wrong, memory is asked for, or a floor is not kept by what
 //! was to be recorded.
 
+mod block;
+mod bounds;
 mod call;
 mod case;
 mod footprint;

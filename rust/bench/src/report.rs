@@ -1,10 +1,10 @@
 //! What was found, as text with tables.
 
-use crate::case::{Case, Floor, Measured};
-use crate::footprint::STACK_FLOOR;
+use crate::case::{By, Case, Measured};
+use crate::footprint::{STACK_FLOOR, STACK_TARGET};
 use crate::machine;
-use crate::plan::{GROWING_ROWS, GROWTH_TARGET};
-use crate::run::Found;
+use crate::plan::{GROWING_ROWS, GROWTH};
+use crate::run::{Found, library_times, reference_times, spread};
 use crate::timing::Budget;
 
 /// All that a run over everything found.
@@ -12,7 +12,7 @@ pub fn everything(found: &Found) -> String {
     let sections = [
         ("The machine and the time", machine::description() + &time(found.budget)),
         ("The calls beside the reference", calls(&found.calls)),
-        ("Growth", growth(&found.growth)),
+        ("Growth, on a block of calls", growth(&found.growth)),
         ("Beside reading the bytes once", reading(&found.reading)),
         ("Memory beside what is lent", memory(found)),
     ];
@@ -27,13 +27,14 @@ fn time(Budget { passes, time, rounds }: Budget) -> String {
 pub fn calls(calls: &[Measured]) -> String {
     let head =
         ["case", "call", "input", "size", "library", "reference", "ratio", "library a second", "floor", "target"];
-    table(&head, calls.iter().map(call).collect())
+    table(&head, calls.iter().map(|measured| call(measured, calls)).collect())
 }
 
-fn call(measured: &Measured) -> Vec<String> {
+fn call(measured: &Measured, run: &[Measured]) -> Vec<String> {
     let Measured { case, times, units, unit } = measured;
     let [library, reference] = [times.library, times.other].map(|time| nanoseconds(measured.per_unit(time), unit));
     let a_second = *units as f64 / times.library.as_secs_f64() / 1e6;
+    let [floor, target] = bounds(measured, run);
     vec![
         format!("`{}`", case.name()),
         case.call.names().1.into(),
@@ -43,51 +44,59 @@ fn call(measured: &Measured) -> Vec<String> {
         reference,
         format!("{:.2}", measured.ratio()),
         format!("{a_second:.2} million {unit}s"),
-        floor(measured),
-        case.target.map_or_else(String::new, |most| target(measured.ratio(), most)),
+        floor,
+        target,
     ]
 }
 
-fn floor(measured: &Measured) -> String {
-    let kept = kept(measured.keeps_floor());
-    match measured.case.floor {
-        None => String::new(),
-        Some(Floor::Ratio(most)) => format!("at most {most}: {kept}"),
-        Some(Floor::Time(most)) => {
-            let took = measured.times.library.as_secs_f64();
-            format!("under {} s: {kept} ({took:.4} s)", most.as_secs_f64())
-        }
-    }
+/// The floor and the target of a call, and whether they are kept and met.
+fn bounds(measured: &Measured, run: &[Measured]) -> [String; 2] {
+    let Some((by, bounds)) = measured.case.bounds else { return Default::default() };
+    let found = measured.ratio_by(by, run);
+    let of = match by {
+        By::Reference => String::new(),
+        By::OneContext => format!(" times `{}`", measured.case.on_one_context().name()),
+    };
+    // The ratio itself stands beside it, unless it is by another case.
+    let beside = match found {
+        Some(found) if by == By::OneContext => format!(" ({found:.2})"),
+        _ => String::new(),
+    };
+    let floor = found.map_or("not measured", |found| kept(bounds.keeps_floor(found)));
+    let target = found.map_or("not measured", |found| met(bounds.meets_target(found)));
+    [format!("at most {}{of}: {floor}{beside}", bounds.floor), format!("at most {}{of}: {target}", bounds.target)]
 }
 
 fn kept(is_kept: bool) -> &'static str {
     if is_kept { "kept" } else { "missed" }
 }
 
-fn target(found: f64, most: f64) -> String {
-    format!("at most {most}: {}", if found <= most { "met" } else { "missed" })
+fn met(is_met: bool) -> &'static str {
+    if is_met { "met" } else { "missed" }
 }
 
 fn growth(growth: &[Vec<Measured>]) -> String {
     let sizes = GROWING_ROWS.map(|rows| format!("{} rows", grouped(rows)));
-    let head =
-        [&["call", "side"], &sizes.each_ref().map(String::as_str)[..], &["largest by smallest", "target"]].concat();
+    let sizes = sizes.each_ref().map(String::as_str);
+    let head = [&["call", "side"], &sizes[..], &["largest by smallest", "floor", "target"]].concat();
     let rows = growth.iter().flat_map(|sizes| {
-        let library = sizes.iter().map(|size| size.per_unit(size.times.library)).collect();
-        let reference = sizes.iter().map(|size| size.per_unit(size.times.other)).collect();
         let call = sizes[0].case.call.names().1;
-        [growth_of(call, "library", library, true), growth_of(call, "reference", reference, false)]
+        let [library, reference] = [library_times(sizes), reference_times(sizes)];
+        [growth_of(call, "library", &library, true), growth_of(call, "reference", &reference, false)]
     });
     table(&head, rows.collect())
 }
 
-fn growth_of(call: &str, side: &str, by_size: Vec<f64>, has_target: bool) -> Vec<String> {
-    let largest = by_size.iter().copied().fold(f64::MIN, f64::max);
-    let smallest = by_size.iter().copied().fold(f64::MAX, f64::min);
-    let spread = largest / smallest;
-    let target = if has_target { target(spread, GROWTH_TARGET) } else { String::new() };
-    let by_size = by_size.into_iter().map(|time| nanoseconds(time, "row"));
-    [call.into(), side.into()].into_iter().chain(by_size).chain([format!("{spread:.2}"), target]).collect()
+fn growth_of(call: &str, side: &str, by_size: &[f64], is_bounded: bool) -> Vec<String> {
+    let found = spread(by_size);
+    let [floor, target] = if is_bounded {
+        let (kept, met) = (kept(GROWTH.keeps_floor(found)), met(GROWTH.meets_target(found)));
+        [format!("at most {}: {kept}", GROWTH.floor), format!("at most {}: {met}", GROWTH.target)]
+    } else {
+        Default::default()
+    };
+    let by_size = by_size.iter().map(|&time| nanoseconds(time, "row"));
+    [call.into(), side.into()].into_iter().chain(by_size).chain([format!("{found:.2}"), floor, target]).collect()
 }
 
 fn reading(reading: &[Measured]) -> String {
@@ -102,10 +111,14 @@ fn reading(reading: &[Measured]) -> String {
 
 fn memory(found: &Found) -> String {
     let rows = found.footprints.iter().map(|(call, footprint)| {
-        let floor = format!("under {} bytes: {}", grouped(STACK_FLOOR), kept(footprint.keeps_stack_floor()));
-        vec![call.to_string(), format!("{} bytes", grouped(footprint.stack)), floor, footprint.allocations.to_string()]
+        let stack = footprint.stack;
+        let under = |most: usize, told: &str| format!("under {} bytes: {told}", grouped(most));
+        let floor = under(STACK_FLOOR, kept(footprint.keeps_stack_floor()));
+        let target = under(STACK_TARGET, met(stack < STACK_TARGET));
+        let allocations = footprint.allocations.to_string();
+        vec![call.to_string(), format!("{} bytes", grouped(stack)), floor, target, allocations]
     });
-    table(&["call", "stack", "floor", "allocations"], rows.collect())
+    table(&["call", "stack", "floor", "target", "allocations"], rows.collect())
 }
 
 /// A table with a head.
@@ -131,6 +144,9 @@ fn grouped(number: usize) -> String {
 #[cfg(test)]
 mod tests {
     use super::*;
+    use crate::plan;
+    use crate::timing::Times;
+    use std::time::Duration;
 
     #[test]
     fn digits_are_grouped() {
@@ -145,10 +161,27 @@ mod tests {
     }
 
     #[test]
-    fn growth_is_the_largest_by_the_smallest() {
-        let row = growth_of("check", "library", vec![2.0, 4.0, 3.0], true);
-        assert_eq!(row[5..], ["2.00", "at most 1.2: missed"]);
-        let row = growth_of("check", "library", vec![2.0, 2.2], true);
-        assert_eq!(row[4..], ["1.10", "at most 1.2: met"]);
+    fn growth_is_told_with_its_bounds() {
+        let row = growth_of("check", "library", &[2.0, 2.7], true);
+        assert_eq!(row[4..], ["1.35", "at most 1.3: missed", "at most 1.15: missed"]);
+        let row = growth_of("check", "library", &[2.0, 2.3], true);
+        assert_eq!(row[4..], ["1.15", "at most 1.3: kept", "at most 1.15: met"]);
+        assert_eq!(growth_of("check", "reference", &[2.0, 2.7], false)[4..], ["1.35", "", ""]);
+    }
+
+    #[test]
+    fn bounds_by_one_context_are_told_with_their_ratio() {
+        let measured = |name: &str, library| {
+            let case = plan::all().into_iter().find(|case| case.name() == name).expect("there is such a case");
+            let [library, other] = [library, 100].map(Duration::from_millis);
+            Measured { case, times: Times { library, other }, units: 1, unit: "row" }
+        };
+        let run = [measured("check:one", 50), measured("check:rising", 60)];
+        assert_eq!(bounds(&run[0], &run), ["at most 0.55: kept", "at most 0.4: missed"]);
+        let told = ["at most 1.5 times `check:one`: kept (1.20)", "at most 1.1 times `check:one`: missed"];
+        assert_eq!(bounds(&run[1], &run), told);
+        let told = ["at most 1.5 times `check:one`: not measured", "at most 1.1 times `check:one`: not measured"];
+        assert_eq!(bounds(&run[1], &run[1..]), told);
+        assert_eq!(bounds(&measured("walk:one", 50), &run), ["", ""]);
     }
 }

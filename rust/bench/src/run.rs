@@ -6,7 +6,7 @@ use crate::Outcome;
 use crate::call::Call;
 use crate::case::{Case, Measured};
 use crate::footprint::{self, Footprint};
-use crate::plan;
+use crate::plan::{self, GROWTH};
 use crate::timing::Budget;
 
 /// What a run over everything found.
@@ -15,7 +15,7 @@ pub struct Found {
     pub budget: Budget,
     /// Each call on its inputs, beside the reference.
     pub calls: Vec<Measured>,
-    /// Check and fill, each on more and more rows.
+    /// Check and fill, each on more and more rows of a block of calls.
     pub growth: [Vec<Measured>; 2],
     /// Check and fill, each beside a reading of the bytes.
     pub reading: Vec<Measured>,
@@ -39,11 +39,31 @@ impl Found {
 
     /// The floors that are not kept, in words.
     pub fn missed_floors(&self) -> Vec<String> {
-        let missed = self.calls.iter().filter(|measured| !measured.keeps_floor());
+        let missed = self.calls.iter().filter(|measured| !measured.keeps_floor(&self.calls));
         let times = missed.map(|measured| format!("{} takes too long", measured.case.name()));
+        let missed = self.growth.iter().filter(|sizes| !GROWTH.keeps_floor(spread(&library_times(sizes))));
+        let growth = missed.map(|sizes| format!("{} grows with the rows", sizes[0].case.name()));
         let missed = self.footprints.iter().filter(|(_, footprint)| !footprint.keeps_stack_floor());
-        times.chain(missed.map(|(call, _)| format!("{call} takes too much stack"))).collect()
+        let stack = missed.map(|(call, _)| format!("{call} takes too much stack"));
+        times.chain(growth).chain(stack).collect()
     }
+}
+
+/// What the library takes for a unit, by size.
+pub fn library_times(sizes: &[Measured]) -> Vec<f64> {
+    sizes.iter().map(|size| size.per_unit(size.times.library)).collect()
+}
+
+/// What the reference takes for a unit, by size.
+pub fn reference_times(sizes: &[Measured]) -> Vec<f64> {
+    sizes.iter().map(|size| size.per_unit(size.times.other)).collect()
+}
+
+/// The largest time by the smallest.
+pub fn spread(times: &[f64]) -> f64 {
+    let largest = times.iter().copied().fold(f64::MIN, f64::max);
+    let smallest = times.iter().copied().fold(f64::MAX, f64::min);
+    largest / smallest
 }
 
 /// Measures cases in passes over all of them, so that the quickest time of each is one of many over the whole run:
@@ -64,18 +84,48 @@ mod tests {
     use crate::timing::Times;
     use std::time::Duration;
 
-    fn found(library: Duration, stack: usize) -> Found {
-        let times = Times { library, other: Duration::from_millis(10) };
-        let measured = |case| Measured { case, times, units: 1, unit: "row" };
+    /// What a run finds if the library takes so long for each call but those on one context, and for a growing one as
+    /// long as its rows say and so much more a row for the most rows.
+    fn found(library: Duration, growth: f64, stack: usize) -> Found {
+        let other = Duration::from_millis(100);
+        let measured = |case: Case| {
+            let library = if case.name() == case.on_one_context().name() { other / 2 } else { library };
+            Measured { case, times: Times { library, other }, units: 1, unit: "row" }
+        };
         let calls = plan::all().into_iter().map(measured).collect();
+        let growing = |case: Case, by: f64| Measured {
+            case,
+            times: Times { library: Duration::from_secs_f64(by), other },
+            units: 1,
+            unit: "row",
+        };
+        let growth = [Call::Check, Call::Fill].map(|call| {
+            let [least, .., most] = plan::growing(call);
+            vec![growing(least, 1.0), growing(most, growth)]
+        });
         let footprints = BTreeMap::from([("check", Footprint { stack, allocations: 0 })]);
-        Found { budget: Budget::SHORT, calls, growth: [vec![], vec![]], reading: vec![], footprints }
+        Found { budget: Budget::SHORT, calls, growth, reading: vec![], footprints }
     }
 
     #[test]
     fn every_floor_that_is_missed_is_told() {
-        assert_eq!(found(Duration::from_millis(13), STACK_FLOOR - 1).missed_floors(), Vec::<String>::new());
-        assert_eq!(found(Duration::from_millis(14), STACK_FLOOR - 1).missed_floors().len(), 6);
-        assert_eq!(found(Duration::from_secs(1), STACK_FLOOR).missed_floors().len(), 9);
+        let missed = |library, growth, stack| found(Duration::from_millis(library), growth, stack).missed_floors();
+        assert_eq!(missed(40, 1.3, STACK_FLOOR - 1), Vec::<String>::new());
+        assert_eq!(missed(41, 1.3, STACK_FLOOR - 1), ["check:oob takes too long", "fill:oob takes too long"]);
+        assert_eq!(missed(56, 1.3, STACK_FLOOR - 1).len(), 6);
+        assert_eq!(missed(71, 1.3, STACK_FLOOR - 1).len(), 8);
+        assert_eq!(missed(76, 1.3, STACK_FLOOR - 1).len(), 12);
+        assert_eq!(missed(1_601, 1.3, STACK_FLOOR - 1).len(), 14);
+        assert_eq!(
+            missed(40, 1.31, STACK_FLOOR - 1),
+            ["check:block grows with the rows", "fill:block grows with the rows"]
+        );
+        assert_eq!(missed(40, 1.3, STACK_FLOOR), ["check takes too much stack"]);
+    }
+
+    #[test]
+    fn the_spread_is_the_largest_by_the_smallest() {
+        assert_eq!(spread(&[2.0, 4.0, 3.0]), 2.0);
+        assert_eq!(spread(&[5.0]), 1.0);
     }
 }

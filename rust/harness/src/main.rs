@@ -28,8 +28,9 @@ fn main() -> ExitCode {
 }
 
 fn run(options: &Options) -> Outcome<()> {
-    let Options { trace_vectors, list_vectors, account_vectors, traces, lists, seed } = options;
+    let Options { trace_vectors, list_vectors, account_vectors, trials, seed } = options;
     println!("full size: {} traces as meant", check::full_size::compare_all()?);
+    println!("check sweeps: {} traces as meant", check::sweeps::compare_all()?);
     println!("vectors: {} answers agree", check::vector_files::compare_all(trace_vectors)?);
     println!("list vectors: {} lists as expected", fill::vector_files::compare_expected(list_vectors)?);
     println!("account vectors: {} lists agree", fill::vector_files::compare_lists(account_vectors)?);
@@ -41,6 +42,6 @@ fn run(options: &Options) -> Outcome<()> {
     println!("call sweeps: {} answers as meant", trace_calls::sweeps::compare_all()?);
     println!("call vectors: {} answers agree", trace_calls::vector_files::compare_all(trace_vectors)?);
     println!("full-size calls: {} answers as meant", trace_calls::full_size::compare_all()?);
-    println!("random: {traces} traces and {lists} lists agree\n{}", trials::compare_all(*traces, *lists, *seed)?);
+    println!("random: {trials} agree\n{}", trials::compare_all(*trials, *seed)?);
     Ok(())
 }

@@ -1,4 +1,4 @@
--- `beyond::beyond_is` meets its contract. The invariant: the first i rows of the cycle stand from `row` on, and the first i digits of the distance have gone
+-- `beyond::beyond_is` meets its contract. The invariant: the first j rows of the cycle stand from `row` on, and the first j digits of the distance have gone
 -- from `rest` to `acc` (`Shifted`); `shift-next` and `one-more` are one turn, and a row that is another ends it (`one-other`). The measure is the rows that
 -- are left.
 use Prim.Native.Nat.{suc, _-_, _≤_}
@@ -22,12 +22,12 @@ use Rattle.beyond.proofs.beyond_is.Statement.{statement}
 use Rattle.beyond.proofs.beyond_is.Tie as tie
 
 abbrev Inv-loop : tie.InvT-loop
-Inv-loop t row stamp s c rest₀ acc₀ i₀ rest acc i =
-    (i ≤ suc outLast) × Shifted outLast (beyondBy (plainClaim c)) i (val acc) (val rest)
-    × (rowsStand (rowAt t) row (outRow stamp (state s) (plainClaim c)) i ≡ true)
+Inv-loop t row stamp s c rest₀ acc₀ j₀ rest acc j =
+    (j ≤ suc outLast) × Shifted outLast (beyondBy (plainClaim c)) j (val acc) (val rest)
+    × (rowsStand (rowAt t) row (outRow stamp (state s) (plainClaim c)) j ≡ true)
 
 abbrev μ-loop : tie.MeasureT-loop
-μ-loop t row stamp s c rest₀ acc₀ i₀ rest acc i = suc outLast - i
+μ-loop t row stamp s c rest₀ acc₀ j₀ rest acc j = suc outLast - j
 
 loop-holds : tie.Need-loop-holds Inv-loop μ-loop
 loop-holds c =
@@ -53,7 +53,7 @@ returns c =
     let a = start .args in
     let rows = rowAt (a .t .now) in
     let other = sym (asked .out-is .ensures) ∙ not-true (asked .out-is .result) (c .if1 .taken) in
-    sym (one-other rows (a .row) (outRow (a .stamp) (state (a .s)) (plainClaim (a .c))) (suc outLast) (turn .loop .i) (omega arith) other)
+    sym (one-other rows (a .row) (outRow (a .stamp) (state (a .s)) (plainClaim (a .c))) (suc outLast) (turn .loop .j) (omega arith) other)
     ∙ stands-by rows (a .row) (a .stamp) (state (a .s)) (plainClaim (a .c)) false (start .pre .1 .1)
 
 loop-again : tie.Need-loop-again Inv-loop μ-loop
@@ -66,14 +66,14 @@ loop-again c =
     let fits = val-lt (off .push .result) (omega (arith, words)) (omega (arith, words)) (omega (arith, words)) in
     let shown = shift-next (l .acc .top) (off .before .loop-test .taken) (l .inv .1) (off .push .ensures) (on .push2 .ensures) fits in
     let same = sym (asked .out-is .ensures) ∙ not-false (asked .out-is .result) (c .if1 .left) in
-    (omega arith, rw add-one (shown .next), one-more _ _ _ (l .i) (l .inv .2) same)
+    (omega arith, rw add-one (shown .next), one-more _ _ _ (l .j) (l .inv .2) same)
 
 returns-2 : tie.Need-returns-2 Inv-loop μ-loop
 returns-2 c =
     let l = c .before .loop in
     let start = c .before .before .before .before .before in
     let a = start .args in
-    let all : l .i ≡ suc outLast = omega arith in
+    let all : l .j ≡ suc outLast = omega arith in
     sym (rw all at (l .inv .2)) ∙ stands-by (rowAt (a .t .now)) (a .row) (a .stamp) (state (a .s)) (plainClaim (a .c)) false (start .pre .1 .1)
 
 pub beyond-is-spec : {M : Type 1} → statement M

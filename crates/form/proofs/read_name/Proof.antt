@@ -1,13 +1,12 @@
 -- `form::read_name` meets its contract: where the number of the characters ends with the name's the name stands there (`name-stands`), else it is walked.
-use Prim.Native.Nat.{_+_, _-_, _%_, _^_, _≤_}
+use Prim.Native.Nat.{_+_, _-_, _%_, _^_}
 use mathlib.Core.Path.{_≡_, sym, _∙_}
 use native.Mathlib.Omega.{arith}
 use borrow.Author.Needs.{needs}
 use borrow.Author.Tests.{leb-true, eqb-true}
-use lib.Dec.{eqb, leb}
 use lib.ListN.{length}
 use Rattle.number.proofs.TestLaws.{both}
-use Rattle.form.specs.Read.{joined}
+use Rattle.cell.specs.Low.{lowNum}
 use Rattle.form.proofs.NameLaws.{name-stands}
 use Rattle.form.proofs.read_name.Statement.{statement}
 use Rattle.form.proofs.read_name.Tie as tie
@@ -26,7 +25,7 @@ returns c =
     let told = both _ _ (sym (call .stands .ensures) ∙ c .before .if1 .taken) in
     let here = leb-true (a .p + 8) (length (a .t .now)) (told .0) in
     let all : a .name .len + (8 - a .name .len) ≡ 8 = omega arith in
-    let same : joined (a .name .len + (8 - a .name .len)) (a .t .now) (a .p) % 256 ^ a .name .len ≡ a .name .number = rw all (eqb-true _ _ (told .1)) in
+    let same : lowNum (a .t .now) (a .p) (a .name .len + (8 - a .name .len)) % 256 ^ a .name .len ≡ a .name .number = rw all (eqb-true _ _ (told .1)) in
     sym (name-stands (a .t .now) (λ i. omega (arith, call .before .shared-slice-known .given i)) (a .name .len) (8 - a .name .len) (a .name .number) (a .p) (omega arith) same)
 
 pub read-name-spec : {M : Type 1} → statement M

@@ -1,6 +1,5 @@
 -- `form::read_pair` meets its contract: there is no digit, one, or both.
 use mathlib.Core.Path.{_∙_, ap}
-use native.Mathlib.Omega.{arith}
 use borrow.Author.Needs.{needs}
 use Rattle.long.specs.Halves.{whole}
 use Rattle.long.proofs.LongLaws.{whole-long}

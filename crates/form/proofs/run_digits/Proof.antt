@@ -6,8 +6,7 @@ use native.Mathlib.Omega.{arith}
 use borrow.Author.Needs.{needs}
 use Rattle.long.specs.Halves.{whole}
 use Rattle.long.proofs.LongLaws.{whole-long}
-use Rattle.form.specs.Plain.{halfRun}
-use Rattle.form.specs.Read.{Run, run}
+use Rattle.form.specs.Read.{Run}
 use Rattle.form.proofs.RunLaws.{run-short, run-full}
 use Rattle.form.proofs.run_digits.Statement.{statement}
 use Rattle.form.proofs.run_digits.Tie as tie

@@ -1,10 +1,10 @@
 -- `form::run_half` meets its contract. The invariant: the run goes on from here as the whole of it (`Running`), and what was read has no more than its digits,
 -- so a half has room for one more. The measure is what is left to the last place.
-use Prim.Native.Nat.{suc, _+_, _*_, _-_, _^_, _≤_, _<_}
-use mathlib.Core.Path.{_≡_, refl}
+use Prim.Native.Nat.{suc, _+_, _-_, _^_, _<_}
+use mathlib.Core.Path.{_≡_}
 use native.Mathlib.Omega.{arith}
 use borrow.Author.Needs.{needs}
-use Rattle.form.specs.Read.{charAt, lastPlace}
+use Rattle.form.specs.Read.{lastPlace}
 use Rattle.form.proofs.RunLaws.{Running, running-first, running-next, running-ends, running-last, half-room, digit-less}
 use Rattle.form.proofs.run_half.Statement.{statement}
 use Rattle.form.proofs.run_half.Tie as tie

@@ -1,12 +1,12 @@
 -- `form::run_on` meets its contract. The invariant: the run goes on from here as the whole of it (`Running`), and what was read has no more than its digits
 -- behind the 16 of the first half, so there is room for one more. The measure is what is left to the last place.
-use Prim.Native.Nat.{suc, _+_, _*_, _-_, _^_, _≤_, _<_}
+use Prim.Native.Nat.{suc, _+_, _*_, _-_, _^_, _<_}
 use mathlib.Core.Path.{_≡_, _∙_, ap}
 use native.Mathlib.Omega.{arith}
 use borrow.Author.Needs.{needs}
 use Rattle.long.specs.Halves.{whole}
 use Rattle.long.proofs.LongLaws.{whole-long}
-use Rattle.form.specs.Read.{charAt, lastPlace}
+use Rattle.form.specs.Read.{lastPlace}
 use Rattle.form.proofs.RunLaws.{Running, running-first, running-next, running-ends, running-last, digit-room, digit-less}
 use Rattle.form.proofs.run_on.Statement.{statement}
 use Rattle.form.proofs.run_on.Tie as tie

@@ -26,7 +26,7 @@ returns-3 c =
     let call = c .before .before in
     let start = call .before .before .before .before in
     let a = start .args in
-    rw (le-leb (a .p + 8) (length (a .t .now)) (omega arith), ← start .pre .0, ← call .low8 .ensures)
+    rw (le-leb (a .p + 8) (length (a .t .now)) (omega arith), ← start .pre .0, ← call .low64-at .ensures)
 
 pub stands-spec : {M : Type 1} → statement M
 stands-spec =

@@ -2,4 +2,5 @@
 
 pub mod compare;
 pub mod full_size;
+pub mod sweeps;
 pub mod vector_files;

@@ -11,6 +11,9 @@ pub const MOST_CONTEXTS: usize = 30;
 /// A context that acts in its turn goes on for at most so many steps.
 const LONGEST_TURN: usize = 8;
 
+/// How far from each other the contexts of a family are.
+const DISTANCES: [u32; 8] = [1, 1, 1, 255, 256, 512, 1_024, 1_025];
+
 /// Contexts, no two of which are the same.
 pub struct Cast {
     contexts: Vec<u32>,
@@ -22,12 +25,9 @@ impl Cast {
     /// From one context to as many as there may be.
     pub fn gather(random: &mut Random) -> Cast {
         let count = random.between(1, MOST_CONTEXTS);
-        let mut contexts = BTreeSet::new();
-        while contexts.len() < count {
-            contexts.insert(context(random));
-        }
+        let contexts = if random.once_in(2) { strangers(count, random) } else { family(count, random) };
         let turn = random.once_in(2).then(|| random.between(1, LONGEST_TURN));
-        Cast { contexts: contexts.into_iter().collect(), turn }
+        Cast { contexts, turn }
     }
 
     /// The context that acts at a step.
@@ -37,6 +37,26 @@ impl Cast {
             None => random.pick(&self.contexts),
         }
     }
+}
+
+/// So many contexts that have nothing to do with each other.
+fn strangers(count: usize, random: &mut Random) -> Vec<u32> {
+    let mut contexts = BTreeSet::new();
+    while contexts.len() < count {
+        contexts.insert(context(random));
+    }
+    contexts.into_iter().collect()
+}
+
+/// So many contexts at one distance, neighbours or such that share their remainders: from 1 on, up to the largest,
+/// around the middle of all, or anywhere.
+pub fn family(count: usize, random: &mut Random) -> Vec<u32> {
+    let distance = random.pick(&DISTANCES);
+    let span = distance * (count as u32 - 1);
+    let room = u32::MAX - span;
+    let any = 1 + random.next() as u32 % room;
+    let first = random.pick(&[1, room, (1 << 31) - span / 2, any]);
+    (0..count as u32).map(|place| first + distance * place).collect()
 }
 
 /// A context's number: small ones, the largest, ones that share some of their bytes, and ones of any count of bits.

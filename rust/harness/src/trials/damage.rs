@@ -8,16 +8,21 @@ use reference::sum::{self, SUMS};
 use reference::{Claim, Column, Draft, ROW_BYTES, Row, State, Wide};
 
 use crate::trials::forgery::{Origin, forge, low_bytes, set, sum_to};
+use crate::trials::misplacement::{
+    another_context, another_stamp, anothers_cycle, anothers_state, as_if_new, earlier_state,
+};
 use crate::trials::random::Random;
 use crate::trials::story;
 use crate::trials::tally::{Met, Tally};
 
 type Damage = fn(&mut Draft, &mut Random);
+type Misplacement = fn(&mut Draft, Range<usize>, &mut Random);
 type ByteDamage = fn(&mut Vec<u8>, &mut Random);
 
 /// Every kind of damage to the rows of a trace, by name, with the weight at which it is picked.
-const DAMAGES: [(&str, usize, Damage); 18] = [
+const DAMAGES: [(&str, usize, Damage); 19] = [
     ("a cell", 4, cell),
+    ("a cell of a first, second or last row", 6, cell_of_line),
     ("a column in a cycle", 4, column_in_cycle),
     ("a byte and its sums", 1, byte_and_sums),
     ("a whole sum", 2, whole_sum),
@@ -37,6 +42,19 @@ const DAMAGES: [(&str, usize, Damage); 18] = [
     ("a trace cut at its start", 1, cut_start),
 ];
 
+/// Every kind of cycle that is put where it should not stand, by name, with the weight at which it is picked.
+const MISPLACEMENTS: [(&str, usize, Misplacement); 6] = [
+    ("a cycle at another stamp", 2, another_stamp),
+    ("a cycle at an earlier state", 3, earlier_state),
+    ("a cycle at another's state", 3, anothers_state),
+    ("a cycle as if its context were new", 2, as_if_new),
+    ("a cycle of another context", 2, another_context),
+    ("another context's own cycle", 2, anothers_cycle),
+];
+
+/// One in so many kinds of damage to a trace is a cycle where it should not stand.
+const MISPLACED_ONCE_IN: usize = 4;
+
 /// Every kind of damage to the bytes of a trace that is not empty, by name, with the weight at which it is picked.
 const BYTE_DAMAGES: [(&str, usize, ByteDamage); 4] = [
     ("bytes cut off", 1, cut_bytes),
@@ -51,15 +69,21 @@ const SEVERAL: &str = "several kinds to one trace";
 /// The names of all kinds of damage.
 pub fn names() -> impl Iterator<Item = &'static str> {
     let of_rows = DAMAGES.iter().map(|&(name, ..)| name);
+    let of_cycles = MISPLACEMENTS.iter().map(|&(name, ..)| name);
     let of_bytes = BYTE_DAMAGES.iter().map(|&(name, ..)| name);
-    of_rows.chain(of_bytes).chain([SEVERAL])
+    of_rows.chain(of_cycles).chain(of_bytes).chain([SEVERAL])
 }
 
 /// The bytes of a trace after one or several kinds of damage.
 pub fn damaged(mut draft: Draft, random: &mut Random, tally: &mut Tally) -> Vec<u8> {
     let times = random.pick(&[0, 1, 1, 1, 1, 1, 1, 1, 2, 3]);
     for _ in 0..times {
-        if !draft.rows.is_empty() {
+        if draft.rows.is_empty() {
+            continue;
+        }
+        if random.once_in(MISPLACED_ONCE_IN) {
+            misplace(&mut draft, random, tally);
+        } else {
             let (name, damage) = random.pick_weighted(&DAMAGES);
             damage(&mut draft, random);
             tally.enter(Met::Damage(name));
@@ -75,6 +99,14 @@ pub fn damaged(mut draft: Draft, random: &mut Random, tally: &mut Tally) -> Vec<
         tally.enter(Met::Damage(SEVERAL));
     }
     bytes
+}
+
+/// Puts a cycle that is right by itself in the place of one of a trace.
+pub fn misplace(draft: &mut Draft, random: &mut Random, tally: &mut Tally) {
+    let cycle = some_cycle(draft, random);
+    let (name, put) = random.pick_weighted(&MISPLACEMENTS);
+    put(draft, cycle, random);
+    tally.enter(Met::Damage(name));
 }
 
 fn cut_bytes(bytes: &mut Vec<u8>, random: &mut Random) {
@@ -95,19 +127,26 @@ fn change_bit(bytes: &mut [u8], random: &mut Random) {
     bytes[at] ^= 1 << random.below(8);
 }
 
-/// Any row; the first and the last are picked more often than others.
+/// Any row; the first, the last, and those of the first cycle and of the last are picked more often than others.
 fn some_row(draft: &Draft, random: &mut Random) -> usize {
     let last = draft.rows.len() - 1;
+    let first_of_a_cycle = || draft.rows.iter().position(|row| row.stamp != 0).unwrap_or(0);
     match random.below(12) {
         0 => 0,
         1 => last,
+        2..5 => (first_of_a_cycle() + random.below(3)).min(last),
+        5 | 6 => last.saturating_sub(random.below(3)),
         _ => random.below(draft.rows.len()),
     }
 }
 
 /// The rows around some row that share its STAMP, at most as many as a number has bytes.
 fn some_cycle(draft: &Draft, random: &mut Random) -> Range<usize> {
-    let at = some_row(draft, random);
+    cycle_around(draft, some_row(draft, random))
+}
+
+/// The rows around a row that share its STAMP, at most as many as a number has bytes.
+fn cycle_around(draft: &Draft, at: usize) -> Range<usize> {
     let alike = |row: &&Row| row.stamp == draft.rows[at].stamp;
     let before = draft.rows[..at].iter().rev().take_while(alike).count();
     let start = at - before.min(Wide::BYTES - 1);
@@ -143,6 +182,18 @@ fn cell(draft: &mut Draft, random: &mut Random) {
     let column = random.pick(Column::ALL);
     let number = interesting(draft, random, row, column);
     draft.rows[row].set(column, number);
+}
+
+/// A cell that is not as it was, in the first, the second or the last row of a cycle.
+fn cell_of_line(draft: &mut Draft, random: &mut Random) {
+    let cycle = some_cycle(draft, random);
+    let row = random.pick(&[cycle.start, cycle.end.min(cycle.start + 2) - 1, cycle.end - 1]);
+    // OOOB and AUX1 have constraints of their own that little else breaks; AUX2 is the last byte of a row.
+    let column = if random.once_in(3) { random.pick(&[OOOB, AUX1, AUX2]) } else { random.pick(Column::ALL) };
+    let number = interesting(draft, random, row, column);
+    let here = draft.rows[row].get(column);
+    let next = low_bytes(here.wrapping_add(1u8.into()), column.width());
+    draft.rows[row].set(column, if number == here { next } else { number });
 }
 
 fn column_in_cycle(draft: &mut Draft, random: &mut Random) {

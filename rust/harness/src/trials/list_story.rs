@@ -13,7 +13,7 @@ const WILD_WRONG_ONCE_IN: usize = 5;
 /// One line in so many of a list that runs like a program is wrong.
 const WRONG_ONCE_IN: usize = 300;
 /// An end is in bounds if it has at most so many bits.
-const BOUND_BITS: usize = 24;
+pub const BOUND_BITS: usize = 24;
 
 /// The text of a list.
 pub fn tell(random: &mut Random) -> Vec<u8> {
@@ -43,6 +43,11 @@ fn program(random: &mut Random) -> String {
         line(right, WRONG_ONCE_IN, random)
     };
     (0..lines).map(line).collect()
+}
+
+/// A right line of a context, mostly in bounds and of at most so many bits.
+pub fn right_line(cn: u32, bits: usize, random: &mut Random) -> String {
+    right_fields(random, |random| near_fields(cn, bits, random)).to_string()
 }
 
 /// The line that says right fields, or once in so many times others.

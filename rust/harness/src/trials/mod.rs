@@ -1,13 +1,17 @@
-//! Random traces and lists, each from a seed of its own, put to the library and the reference.
+//! Random traces, lists and crowds of contexts, each from a seed of its own, put to the library and the reference.
 
 pub mod cast;
+pub mod crowds;
 pub mod damage;
 pub mod forgery;
 pub mod list_damage;
 pub mod list_story;
 pub mod lists;
+pub mod meetings;
+pub mod misplacement;
 pub mod questions;
 pub mod random;
+pub mod remade;
 pub mod story;
 mod summary;
 pub mod tally;
@@ -19,23 +23,29 @@ use std::panic::resume_unwind;
 use std::thread;
 
 use crate::Outcome;
+use crate::options::Trials;
 use random::Random;
 use tally::Tally;
 
 /// Compares on what a generator makes, and enters what it met.
 type Trial = fn(&mut Random, &mut Tally) -> Outcome<()>;
 
-/// Compares on so many traces and so many lists with seeds from `seed` on, in as many threads as the machine runs at a
+/// Compares on so many traces, lists and crowds with seeds from `seed` on, in as many threads as the machine runs at a
 /// time. What was met must be enough to show something.
-pub fn compare_all(traces: u64, lists: u64, seed: u64) -> Outcome<Tally> {
+pub fn compare_all(trials: Trials, seed: u64) -> Outcome<Tally> {
+    let Trials { traces, lists, crowds } = trials;
     let threads = thread::available_parallelism().map_or(1, NonZero::get);
-    let mut tally = over_seeds(seed, traces, threads, traces::compare_one)
-        .map_err(|(seed, error)| format!("random trace, again with --seed {seed} --traces 1 --lists 0: {error}"))?;
-    tally.add(
-        over_seeds(seed, lists, threads, lists::compare_one)
-            .map_err(|(seed, error)| format!("random list, again with --seed {seed} --traces 0 --lists 1: {error}"))?,
-    );
-    tally.enough(traces.min(lists))?;
+    let mut tally = Tally::default();
+    let kinds: [(u64, Trial, &str, &str); 3] = [
+        (traces, traces::compare_one, "trace", "--traces 1 --lists 0 --crowds 0"),
+        (lists, lists::compare_one, "list", "--traces 0 --lists 1 --crowds 0"),
+        (crowds, crowds::compare_one, "crowd", "--traces 0 --lists 0 --crowds 1"),
+    ];
+    for (count, trial, what, options) in kinds {
+        let told = |(seed, error)| format!("random {what}, again with --seed {seed} {options}: {error}");
+        tally.add(over_seeds(seed, count, threads, trial).map_err(told)?);
+    }
+    tally.enough(trials)?;
     Ok(tally)
 }
 
@@ -76,8 +86,8 @@ mod tests {
 
     #[test]
     fn what_is_met_does_not_depend_on_the_number_of_threads() {
-        for trial in [traces::compare_one as Trial, lists::compare_one] {
-            let [alone, two, seven] = [1, 2, 7].map(|threads| over_seeds(u64::MAX - 20, 50, threads, trial));
+        for (trial, count) in [(traces::compare_one as Trial, 50), (lists::compare_one, 50), (crowds::compare_one, 5)] {
+            let [alone, two, seven] = [1, 2, 7].map(|threads| over_seeds(u64::MAX - 20, count, threads, trial));
             assert!(alone.is_ok());
             assert!(alone == two && two == seven);
         }

@@ -1,12 +1,13 @@
 //! A random trace, right or damaged, put to both checkers, and questions of every kind to both.
 
-use reference::{MAX_ROWS, ROW_BYTES, Verdict};
+use reference::{MAX_ROWS, ROW_BYTES, Row, Verdict};
 
 use crate::Outcome;
 use crate::check::compare::compare;
 use crate::trials::damage::damaged;
 use crate::trials::questions::ask_some;
 use crate::trials::random::Random;
+use crate::trials::remade::stop_of;
 use crate::trials::story::Story;
 use crate::trials::tally::{Call, Met, Source, Tally};
 
@@ -20,10 +21,32 @@ pub fn compare_one(random: &mut Random, tally: &mut Tally) -> Outcome<()> {
     let story = Story::tell(random);
     tally.enter_claims(Source::Traces, &story.claims);
     let bytes = some_bytes(&story, random, tally);
-    let told = |error: String| format!("trace of {} bytes: {error}", bytes.len());
-    let verdict = compare(&bytes).map_err(told)?;
+    judge(&bytes, tally)?;
+    ask_some(&bytes, random, tally).map_err(|error| told(&bytes, error))
+}
+
+/// Adds to a message what was put to both.
+fn told(bytes: &[u8], error: String) -> String {
+    format!("trace of {} bytes: {error}", bytes.len())
+}
+
+/// Both checkers must come to the same. A trace is right exactly if each of its cycles can be made again; where it is
+/// not, a constraint is broken in the first that cannot, which may have the rows of the other kind.
+pub fn judge(bytes: &[u8], tally: &mut Tally) -> Outcome<()> {
+    let verdict = compare(bytes).map_err(|error| told(bytes, error))?;
     tally.enter(met(verdict));
-    ask_some(&bytes, random, tally).map_err(told)
+    if let Verdict::Refused { .. } = verdict {
+        return Ok(());
+    }
+    let rows: Vec<Row> = bytes.as_chunks().0.iter().map(Row::from_bytes).collect();
+    match (verdict, stop_of(&rows)) {
+        (Verdict::Accepted { .. }, None) => Ok(()),
+        (Verdict::Broken { row, constraint }, Some(stop)) if stop.may_be_broken_in(row as usize) => {
+            tally.enter_stop(&stop, constraint);
+            Ok(())
+        }
+        (_, stop) => Err(told(bytes, format!("both answer {verdict}, made again it comes to {stop:?}"))),
+    }
 }
 
 /// The trace as it is told, with damage, or so often repeated that it is too long.

@@ -1,37 +1,29 @@
+-- `write::low16` meets its contract: two bytes, one by one (`two-low`).
 use native.Mathlib.Omega.{arith}
 use lib.ListN.{length-set}
 use Rattle.cell.proofs.LowLaws.{two-low}
 use borrow.Author.Needs.{needs}
 use Rattle.cell.proofs.write.low16.Statement.{statement}
 use Rattle.cell.proofs.write.low16.Tie as tie
-use Rattle.cell.proofs.write.low16.Reads as reads
-use Rattle.cell.proofs.write.low16.Lts as lts
 
--- src/lib.rt:45:15
 cast-buf : tie.Need-cast-buf
 cast-buf c = search needs
 
--- src/lib.rt:45:5
 slice-write-buf : tie.Need-slice-write-buf
 slice-write-buf c = search needs
 
--- src/lib.rt:46:19
 cast-buf-2 : tie.Need-cast-buf-2
 cast-buf-2 c = search needs
 
--- src/lib.rt:46:9
 add-buf : tie.Need-add-buf
 add-buf c = search needs
 
--- src/lib.rt:46:5
 slice-write-buf-2 : tie.Need-slice-write-buf-2
 slice-write-buf-2 c = simp length-set (omega arith)
 
--- src/lib.rt:41:1
 same-length : tie.Need-same-length
 same-length c = search needs
 
--- src/lib.rt:41:1
 returns : tie.Need-returns
 returns c = two-low (c .args .buf .now) (c .args .at) (c .args .v)
 

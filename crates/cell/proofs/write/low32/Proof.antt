@@ -1,36 +1,27 @@
+-- `write::low32` meets its contract: the number by its halves, the last one first (`low-cut`).
 use Rattle.cell.proofs.LowLaws.{low-cut}
 use borrow.Author.Needs.{needs}
 use Rattle.cell.proofs.write.low32.Statement.{statement}
 use Rattle.cell.proofs.write.low32.Tie as tie
-use Rattle.cell.proofs.write.low32.Reads as reads
-use Rattle.cell.proofs.write.low32.Lts as lts
-use Rattle.cell.proofs.write.low16.Reads as low16-reads
 
--- src/lib.rt:53:20
 cast-low16 : tie.Need-cast-low16
 cast-low16 c = search needs
 
--- src/lib.rt:53:5
 low16-requires : tie.Need-low16-requires
 low16-requires c κs = search needs
 
--- src/lib.rt:54:16
 add-low16 : tie.Need-add-low16
 add-low16 c = search needs
 
--- src/lib.rt:54:24
 cast-low16-2 : tie.Need-cast-low16-2
 cast-low16-2 c = search needs
 
--- src/lib.rt:54:5
 low16-requires-2 : tie.Need-low16-requires-2
 low16-requires-2 c κs = search needs
 
--- src/lib.rt:49:1
 same-length : tie.Need-same-length
 same-length c = search needs
 
--- src/lib.rt:49:1
 returns : tie.Need-returns
 returns c =
     let last = c .before .before in

@@ -1,38 +1,28 @@
+-- `write::put_u24` meets its contract: two bytes and then one (`sets-cut`).
 use Rattle.number.proofs.StoreLaws.{sets-cut}
 use Rattle.cell.proofs.LowLaws.{be-two}
 use borrow.Author.Needs.{needs}
 use Rattle.cell.proofs.write.put_u24.Statement.{statement}
 use Rattle.cell.proofs.write.put_u24.Tie as tie
-use Rattle.cell.proofs.write.put_u24.Reads as reads
-use Rattle.cell.proofs.write.put_u24.Lts as lts
-use Rattle.cell.proofs.write.put_u16.Reads as put-u16-reads
-use Rattle.cell.proofs.write.put_u8.Reads as put-u8-reads
 
--- src/write.rt:97:22
 cast-put-u16 : tie.Need-cast-put-u16
 cast-put-u16 c = search needs
 
--- src/write.rt:97:5
 put-u16-requires : tie.Need-put-u16-requires
 put-u16-requires c κs = search needs
 
--- src/write.rt:98:17
 add-put-u8 : tie.Need-add-put-u8
 add-put-u8 c = search needs
 
--- src/write.rt:98:25
 cast-put-u8 : tie.Need-cast-put-u8
 cast-put-u8 c = search needs
 
--- src/write.rt:98:5
 put-u8-requires : tie.Need-put-u8-requires
 put-u8-requires c κs = search needs
 
--- src/write.rt:93:1
 same-length : tie.Need-same-length
 same-length c = search needs
 
--- src/write.rt:93:1
 returns : tie.Need-returns
 returns c =
     let last = c .before .before in

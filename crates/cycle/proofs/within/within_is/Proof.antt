@@ -1,4 +1,4 @@
--- `cycle::within::within_is` meets its contract. The invariant: the first i rows of the cycle stand from `row` on; `one-more` is one turn, and a row that is
+-- `cycle::within::within_is` meets its contract. The invariant: the first j rows of the cycle stand from `row` on; `one-more` is one turn, and a row that is
 -- another ends it (`one-other`). The measure is the rows that are left.
 use Prim.Native.Nat.{suc, _-_, _≤_}
 use mathlib.Core.Bool.{true}
@@ -18,10 +18,10 @@ use Rattle.cycle.proofs.within.within_is.Statement.{statement}
 use Rattle.cycle.proofs.within.within_is.Tie as tie
 
 abbrev Inv-loop : tie.InvT-loop
-Inv-loop t row stamp m i₀ i = (i ≤ suc inLast) × (rowsStand (rowAt t) row (withinRow (m .stamp) (m .before) (m .claim)) i ≡ true)
+Inv-loop t row stamp m j₀ j = (j ≤ suc inLast) × (rowsStand (rowAt t) row (withinRow (m .stamp) (m .before) (m .claim)) j ≡ true)
 
 abbrev μ-loop : tie.MeasureT-loop
-μ-loop t row stamp m i₀ i = suc inLast - i
+μ-loop t row stamp m j₀ j = suc inLast - j
 
 loop-holds : tie.Need-loop-holds Inv-loop μ-loop
 loop-holds c = (omega arith, none-stand _ _ _)
@@ -39,7 +39,7 @@ returns c =
     let m = make .result in
     let rows = rowAt (a .t .now) in
     let other = sym (asked .in-is .ensures) ∙ not-true (asked .in-is .result) (c .if1 .taken) in
-    let none = one-other rows (a .row) (withinRow (m .stamp) (m .before) (m .claim)) (suc inLast) (turn .loop .i) (omega arith) other in
+    let none = one-other rows (a .row) (withinRow (m .stamp) (m .before) (m .claim)) (suc inLast) (turn .loop .j) (omega arith) other in
     sym (rw (make .ensures .stamp, make .ensures .before, make .ensures .claim) at none)
     ∙ stands-by rows (a .row) (a .stamp) (state (a .s)) (plainClaim (a .c)) true (start .pre .1 .1)
 
@@ -48,7 +48,7 @@ loop-again c =
     let asked = c .before in
     let l = asked .before .before .loop in
     let same = sym (asked .in-is .ensures) ∙ not-false (asked .in-is .result) (c .if1 .left) in
-    (omega arith, one-more _ _ _ (l .i) (l .inv .1) same)
+    (omega arith, one-more _ _ _ (l .j) (l .inv .1) same)
 
 returns-2 : tie.Need-returns-2 Inv-loop μ-loop
 returns-2 c =
@@ -56,7 +56,7 @@ returns-2 c =
     let made = c .before .before .make .ensures in
     let start = c .before .before .before .before in
     let a = start .args in
-    let all : l .i ≡ suc inLast = omega arith in
+    let all : l .j ≡ suc inLast = omega arith in
     sym (rw (all, made .stamp, made .before, made .claim) at (l .inv .1))
     ∙ stands-by (rowAt (a .t .now)) (a .row) (a .stamp) (state (a .s)) (plainClaim (a .c)) true (start .pre .1 .1)
 

@@ -3,8 +3,7 @@ use mathlib.Core.Path.{sym, _∙_, ap}
 use native.Mathlib.Omega.{arith}
 use borrow.Author.Needs.{needs}
 use Rattle.number.proofs.WholeLaws.{wide-is}
-use Rattle.model.specs.Columns.{Cells}
-use Rattle.model.specs.State.{Context, contextOf}
+use Rattle.model.specs.Cycles.{Claim}
 use Rattle.trace.specs.Asked.{whereIs}
 use Rattle.trace.specs.declared.place.Claimed.the-variants.{Is, Refused}
 use Rattle.trace.proofs.PlaceLaws.{Stands, told-stands, told-refused}
@@ -20,32 +19,18 @@ stands c =
     told-stands _ (λ i h. omega (arith, known .shared-slice-known .given i)) (known .before .args .k)
     (sym (call .place-of .ensures) ∙ c .place .given .1)
 
-place-of-requires : tie.Need-place-of-requires
-place-of-requires c κs = search needs
-
-enum-known-place : tie.Need-enum-known-place
-enum-known-place c = search needs
-
-read-row-requires : tie.Need-read-row-requires
-read-row-requires c κs = omega (arith, stands (c .before) .inside, stands (c .before) .rows)
-
-context-of-requires : tie.Need-context-of-requires
-context-of-requires c κs = search needs
-
-enum-known-place-2 : tie.Need-enum-known-place-2
-enum-known-place-2 c = search needs
+claim-shown-requires : tie.Need-claim-shown-requires
+claim-shown-requires c κs = omega (arith, stands (c .before) .inside, stands (c .before) .rows)
 
 returns : tie.Need-returns
 returns c =
-    let its = c .before .before in
-    let read = its .before in
-    let told = read .before .before in
-    let x = read .read-row .result .head in
-    let ok = read .read-row .ok in
-    let row = read .read-row .ensures in
-    let cn = ap (λ (y : Context). y .cn) (its .context-of .ensures ∙ ap contextOf row) in
-    let end1 = wide-is (x .end1) _ (ap (λ (y : Cells). y .end1) row) (omega (arith, ok)) (omega (arith, ok)) in
-    let end2 = wide-is (x .end2) _ (ap (λ (y : Cells). y .end2) row) (omega (arith, ok)) (omega (arith, ok)) in
+    let told = c .before .before in
+    let x = c .claim-shown .result in
+    let ok = c .claim-shown .ok in
+    let shown = c .claim-shown .ensures in
+    let cn = ap (λ (y : Claim). y .context .cn) shown in
+    let end1 = wide-is (x .end1) _ (ap (λ (y : Claim). y .end1) shown) (omega (arith, ok)) (omega (arith, ok)) in
+    let end2 = wide-is (x .end2) _ (ap (λ (y : Claim). y .end2) shown) (omega (arith, ok)) (omega (arith, ok)) in
     rw (stands told .cycle) (λ i. Is (record { context = record { cn = cn i }; end1 = end1 i; end2 = end2 i }))
 
 returns-2 : tie.Need-returns-2
@@ -58,11 +43,4 @@ returns-2 c =
 pub claim-at-spec : {M : Type 1} → statement M
 claim-at-spec =
     tie.close
-    (tie.spec
-    place-of-requires
-    enum-known-place
-    read-row-requires
-    context-of-requires
-    enum-known-place-2
-    returns
-    returns-2)
+    (tie.spec (λ c κs. search needs) (λ c. search needs) claim-shown-requires (λ c. search needs) returns returns-2)
