@@ -21,15 +21,13 @@ use Rattle.model.specs.Tests.{pick, zeros}
 use Rattle.model.specs.Trace.{inBounds, lastOf, rowOf}
 use Rattle.model.specs.Verdict.{rowBefore, before}
 use Rattle.model.proofs.OneCycle.{Ready, CycleAt, ready-first, ready-next, counts-cycle}
-use Rattle.model.proofs.ReadBack.{is-row, row-used}
 use Rattle.model.proofs.TestFacts.{pick-has, zeros-are}
 use Rattle.model.proofs.VerdictLaws.{judged-meet}
-use Rattle.state.specs.Look.{lookBack}
-use Rattle.state.proofs.LookLaws.{Between, stamp-before-new, look-before}
+use Rattle.state.proofs.LookLaws.{stamp-before-new}
 use Rattle.compare.specs.Same.{cycleStands}
 use Rattle.compare.proofs.SameLaws.{cycle-stands}
 use Rattle.recent.specs.Notes.{slots, slotOf, Span, wider, Known, recalled}
-use Rattle.recent.proofs.NoteLaws.{Run, known-none, known-run, recalled-before}
+use Rattle.recent.proofs.NoteLaws.{known-none, known-cycle, recalled-before}
 use Rattle.count.proofs.CountLaws.{Below, counts-none, counts-next, counts-below}
 use Rattle.checker.specs.Steps.{emptyFrom, leadingEmpty, cycleNext, withCycle}
 
@@ -134,7 +132,7 @@ module _ (r : ℕ → Cells) (n : ℕ) (notes : List ℕ) (span : Span) (i cycle
 
   -- else the comparison decides, at the next stamp and the recalled state
   pub compared : {t : Bool} {stamp : ℕ} {s : State} → c .context .cn ≢ 0 → i + suc (lastOf c) ≤ n → stamp ≡ suc cycles
-      → s ≡ recalled r notes span (c .context) cycles i → t ≡ cycleStands r i stamp s c → t ≡ cycleNext r n notes span i cycles c
+      → s ≡ recalled r notes span (c .context) → t ≡ cycleStands r i stamp s c → t ≡ cycleNext r n notes span i cycles c
   unfolding cycleNext
   compared some room next own e = rw (ne-eqb (c .context .cn) 0 some, le-leb (i + suc (lastOf c)) n room, ← next, ← own) e
 
@@ -142,30 +140,25 @@ module _ {r : ℕ → Cells} {n : ℕ} {notes : List ℕ} {span : Span} {done : 
   abbrev k : ℕ
   k = done .instructions
 
-  moved : (suc k ≡ suc (rowBefore r i .stamp)) × Between r i
-  moved = stamp-before-new _ _ _ _ _ (w .ready .leads .stamps) (w .ready .leads .cts) (suc-ne-zero k) refl
-
   -- the row before has the number of the cycles as its STAMP
   pub walked-stamp : done .instructions ≡ rowBefore r i .stamp
-  walked-stamp = omega (arith, moved .0)
+  walked-stamp = omega (arith, stamp-before-new _ _ _ _ _ (w .ready .leads .stamps) (w .ready .leads .cts) (suc-ne-zero k) refl .0)
 
   -- there are no more cycles than rows
   pub walked-few : Below i done
   walked-few = rw (w .counted) (counts-below r i)
 
   -- the state that is recalled is the one before the row
-  recalls : (x : Context) → recalled r notes span x k i ≡ before r i x
-  recalls x =
-      let looks = look-before r n x i (judged-meet r n i .0 (w .ready .meets)) (moved .1) in
-      recalled-before (w .known) x k (ap (λ (limit : ℕ). lookBack r x limit i .state) walked-stamp ∙ looks)
+  recalls : (x : Context) → recalled r notes span x ≡ before r i x
+  recalls x = recalled-before (w .known) n (judged-meet r n i .0 (w .ready .meets)) x
 
   -- so it is sound
-  pub recalls-sound : (x : Context) → Sound (recalled r notes span x (done .instructions) i)
+  pub recalls-sound : (x : Context) → Sound (recalled r notes span x)
   recalls-sound x = rw (recalls x) (w .ready .sound x)
 
   module _ (c : Claim) (next : cycleNext r n notes span i (done .instructions) c ≡ true) where
     abbrev stands : Bool
-    stands = cycleStands r i (suc k) (recalled r notes span (c .context) k i) c
+    stands = cycleStands r i (suc k) (recalled r notes span (c .context)) c
 
     tests : ((not (eqb (c .context .cn) 0) ≡ true) × (leb (i + suc (lastOf c)) n ≡ true)) × (stands ≡ true)
     unfolding cycleNext
@@ -180,9 +173,6 @@ module _ {r : ℕ → Cells} {n : ℕ} {notes : List ℕ} {span : Span} {done : 
     there : CycleAt r i (suc k) c
     there j h = cycle-stands r i (suc k) _ c (tests .1) j h ∙ ap (λ (s : State). rowOf (suc k) s c j) (recalls (c .context))
 
-    run : Run r i (lastOf c) (c .context)
-    run j h = rw (there j h) (row-used k (before r i (c .context)) c j, is-row (suc k) (before r i (c .context)) c j .context)
-
     -- behind it the next may start; its last row is noted, its context is in the span, and it is counted
     pub walked-next : {noted : List ℕ} {wide : Span} {more : Counts} {end : ℕ} → c .context .cn < 2 ^ 32 → c .end1 < 256 ^ 17 → c .end2 < 256 ^ 17
         → noted ≡ set notes (slotOf (c .context)) (i + lastOf c) → wide ≡ wider span (c .context) → more ≡ withCycle done c → end ≡ i + suc (lastOf c)
@@ -194,7 +184,7 @@ module _ {r : ℕ → Cells} {n : ℕ} {notes : List ℕ} {span : Span} {done : 
         (record {
           within = next-fits;
           ready = rw (add-one k) (ready-next r n k c valid i (w .ready) next-fits there);
-          known = known-run (w .known) (w .ready .some) (c .context) (lastOf c) run;
+          known = known-cycle (w .known) (w .ready .some) k (before r i (c .context)) c there;
           counted = ap (λ (x : Counts). withCycle x c) (w .counted) ∙ sym (counts-cycle r i k c there);
         })
 

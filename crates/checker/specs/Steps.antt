@@ -22,7 +22,7 @@ leadingEmpty r n = emptyFrom r 0 n
 -- the claim has a context, and the rows from row i of n on are its cycle: behind so many cycles, and at the state that is recalled of its context
 unfoldable pub cycleNext : (ℕ → Cells) → (n : ℕ) → (notes : List ℕ) → Span → (i cycles : ℕ) → Claim → Bool
 cycleNext r n notes span i cycles c =
-    not (eqb (c .context .cn) 0) && leb (i + suc (lastOf c)) n && cycleStands r i (suc cycles) (recalled r notes span (c .context) cycles i) c
+    not (eqb (c .context .cn) 0) && leb (i + suc (lastOf c)) n && cycleStands r i (suc cycles) (recalled r notes span (c .context)) c
 
 -- the counts with the cycle of one claim more
 abbrev pub withCycle : Counts → Claim → Counts

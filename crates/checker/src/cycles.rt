@@ -9,7 +9,7 @@ ghost use Rattle.model.specs.Verdict.{brokenAt, judged, verdictBy, maxRows};
 ghost use Rattle.state.specs.Plain.{context};
 ghost use Rattle.claim.specs.Told.{plainClaim};
 ghost use Rattle.count.specs.Counts.{plainCounts};
-ghost use Rattle.recent.specs.Notes.{plainSpan, Known, recalled};
+ghost use Rattle.recent.specs.Notes.{plainSpan, notedIn, recalled};
 ghost use Rattle.checker.specs.Answer.{told};
 ghost use Rattle.checker.specs.Steps.{leadingEmpty, cycleNext, withCycle};
 use crate::Verdict;
@@ -57,8 +57,8 @@ fn cycle_stands(
     requires { ⌜ n * rowBytes ≤ length (now t) ⌝ }
     requires { ⌜ i ≤ n ⌝ }
     requires { ⌜ cycles < maxRows ⌝ }
-    requires { ⌜ Known (now notes) (plainSpan span) (rowAt (now t)) i ⌝ }
-    requires { ⌜ Sound (recalled (rowAt (now t)) (now notes) (plainSpan span) (context (c .context)) cycles i) ⌝ }
+    requires { ⌜ notedIn (length (now t)) (now notes) ⌝ }
+    requires { ⌜ Sound (recalled (rowAt (now t)) (now notes) (plainSpan span) (context (c .context))) ⌝ }
     ensures { λ r. ⌜ r ≡ cycleNext (rowAt (now (t .entry))) n (now (notes .entry)) (plainSpan span) i cycles (plainClaim c) ⌝ }
 {
     if c.context.cn == 0 {
@@ -68,7 +68,7 @@ fn cycle_stands(
         return false;
     }
     let own = c.context;
-    let before = recall(t, notes, span, i, cycles, own);
+    let before = recall(t, notes, span, own);
     cycle_is(t, i, cycles as u32 + 1, before, c)
 }
 

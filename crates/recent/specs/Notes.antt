@@ -1,13 +1,14 @@
 -- What is known of the rows before a row: for each remainder of CN the latest row in use with it, and the lowest and the highest context of the rows in
 -- use. By them a context's state is found without a look back.
-use Prim.Native.Nat.{ℕ, zero, suc, _%_, _<_}
+use Prim.Native.Nat.{ℕ, zero, suc, _+_, _*_, _%_, _<_, _≤_}
 use mathlib.Core.Bool.{Bool, true, false, _&&_, _||_}
 use mathlib.Core.List.{List}
+use mathlib.Core.Logic.{_≢_}
 use mathlib.Core.Path.{_≡_}
 use lib.Dec.{eqb}
 use lib.ListN.{length, getD}
-use Rattle.model.specs.Columns.{Cells}
-use Rattle.model.specs.Constraints.{inUse}
+use Rattle.model.specs.Columns.{Cells, rowBytes}
+use Rattle.model.specs.Constraints.{lastCt, inUse}
 use Rattle.model.specs.State.{Context, State, sameContext, contextOf, stateOf, start}
 use Rattle.model.specs.Tests.{pick}
 use Rattle.state.specs.Look.{lookBack}
@@ -62,11 +63,12 @@ wider s x = record { lowest = lowerOf x (s .lowest); highest = higherOf x (s .hi
 
 -- ---- what they say of the rows
 
--- the list is the notes on the rows before row i, and the contexts of those in use are in the span; row 0 is not in use
+-- the list is the notes on the rows before row i, and the contexts of those in use are in the span; row 0 is not in use, and a noted row ends its cycle
 pub record Known (l : List ℕ) (s : Span) (r : ℕ → Cells) (i : ℕ) : Type 0 where
   pub size : length l ≡ slots
   pub entry : (slot : ℕ) → slot < slots → getD l slot 0 ≡ latest r slot i
   pub first : 0 < i → inUse (r 0) ≡ false
+  pub ends : (slot : ℕ) → latest r slot i ≢ 0 → r (latest r slot i) .ct ≡ lastCt (r (latest r slot i) .ooob)
   pub inside : (j : ℕ) → j < i → inUse (r j) ≡ true → outside s (contextOf (r j)) ≡ false
 
 -- the state that an entry shows for the context: that of a context without an earlier instruction where no row was noted, that which the noted row
@@ -74,7 +76,17 @@ pub record Known (l : List ℕ) (s : Span) (r : ℕ → Cells) (i : ℕ) : Type 
 abbrev pub shown : (ℕ → Cells) → Context → (entry : ℕ) → State → State
 shown r x k s = pick (eqb k 0) start (pick (sameContext (contextOf (r k)) x) (stateOf (r k)) s)
 
--- the state of the context before row i: that of a context without an earlier instruction where the context is outside of the span, and else by the notes;
--- where they show another context's row, the look-up's answer over at most `limit` cycles
-abbrev pub recalled : (ℕ → Cells) → List ℕ → Span → Context → (limit i : ℕ) → State
-recalled r l s x limit i = pick (outside s x) start (shown r x (getD l (slotOf x) 0) (lookBack r x limit i .state))
+-- each noted row stands in so many bytes
+abbrev pub notedIn : (bytes : ℕ) → List ℕ → Type 0
+notedIn bytes l = (slot : ℕ) → slot < slots → (getD l slot 0 + 1) * rowBytes ≤ bytes
+
+-- the look-up's answer from row k on back, over as many cycles as its STAMP says
+abbrev pub lookFrom : (ℕ → Cells) → Context → (k : ℕ) → State
+lookFrom r x k = lookBack r x (r k .stamp) (suc k) .state
+
+-- the state of the context by what is known: that of a context without an earlier instruction where the context is outside of the span, and else by the
+-- notes; where they show another context's row, that row is the latest of all contexts with the entry, so that the look-up starts there
+abbrev pub recalled : (ℕ → Cells) → List ℕ → Span → Context → State
+recalled r l s x =
+    let k : ℕ = getD l (slotOf x) 0 in
+    pick (outside s x) start (shown r x k (lookFrom r x k))

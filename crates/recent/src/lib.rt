@@ -2,12 +2,15 @@
 // of a context before the row is found by them at once, and the look-up back cycle by cycle is left for contexts that share an entry. Only crates of this
 // repository call these functions.
 ghost use mathlib.Core.Path.{_≡_};
-ghost use Prim.Native.Nat.{_*_, _≤_, _<_};
+ghost use Prim.Native.Nat.{_+_, _*_, _≤_, _<_};
 ghost use lib.ListN.{length, set};
 ghost use Rattle.model.specs.Columns.{rowBytes, rowAt};
 ghost use Rattle.model.specs.Verdict.{maxRows};
 ghost use Rattle.state.specs.Plain.{context, state};
-ghost use Rattle.recent.specs.Notes.{slotOf, plainSpan, noSpan, outside, lowerOf, higherOf, wider, Known, recalled};
+ghost use Rattle.recent.specs.Notes.{slotOf, plainSpan, noSpan, outside, lowerOf, higherOf, wider, notedIn, recalled};
+use cell::read::u32_at;
+use model::ROW_BYTES;
+use row::place;
 use state::Context;
 use state::State;
 use state::is_lower;
@@ -81,19 +84,19 @@ pub fn note(notes: &mut [u16; SLOTS], x: Context, row: usize)
     notes[slot] = row as u16;
 }
 
-// The state of the context before this row by what is known of the rows before it. Where the noted row is of another context it is looked up, over at most
-// so many cycles.
-pub fn recall(
-    t: &[u8],
-    notes: &[u16; SLOTS],
-    span: Span,
-    row: usize,
-    cycles: usize,
-    x: Context,
-) -> State
-    requires { ⌜ row * rowBytes ≤ length (now t) ⌝ }
-    requires { ⌜ Known (now notes) (plainSpan span) (rowAt (now t)) row ⌝ }
-    ensures { λ r. ⌜ state r ≡ recalled (rowAt (now (t .entry))) (now (notes .entry)) (plainSpan span) (context x) cycles row ⌝ }
+// STAMP of row i.
+fn stamp_at(t: &[u8], i: usize) -> u32
+    requires { ⌜ (i + 1) * rowBytes ≤ length (now t) ⌝ }
+    ensures { λ r. ⌜ r ≡ rowAt (now (t .entry)) i .stamp ⌝ }
+{
+    u32_at(t, i * ROW_BYTES + place::STAMP)
+}
+
+// The state of the context by what is known of the rows before a row. Where the noted row is of another context it is looked up from there on back: that row
+// is the latest of all contexts with the entry.
+pub fn recall(t: &[u8], notes: &[u16; SLOTS], span: Span, x: Context) -> State
+    requires { ⌜ notedIn (length (now t)) (now notes) ⌝ }
+    ensures { λ r. ⌜ state r ≡ recalled (rowAt (now (t .entry))) (now (notes .entry)) (plainSpan span) (context x) ⌝ }
 {
     if is_outside(span, x) {
         return start_state();
@@ -106,6 +109,7 @@ pub fn recall(
     if has_context(t, last, x) {
         return state_at(t, last);
     }
-    let looked = state_before(t, row, cycles, x);
+    let cycles = stamp_at(t, last) as usize;
+    let looked = state_before(t, last + 1, cycles, x);
     looked.state
 }

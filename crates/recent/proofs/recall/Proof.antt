@@ -1,15 +1,16 @@
--- `recent::recall` meets its contract by the cases of `recalled`. A noted row is one of those before (`noted-before`), so it stands in the bytes.
-use Prim.Native.Nat.{_-_, _≤_}
+-- `recent::recall` meets its contract by the cases of `recalled`. A noted row stands in the bytes, and so do the rows before it.
+use Prim.Native.Nat.{_+_, _*_, _≤_}
 use mathlib.Core.Bool.{false}
 use mathlib.Core.Path.{_≡_, sym, _∙_, ap}
+use native.Mathlib.Numerals.{add-one}
 use native.Mathlib.Omega.{arith}
 use borrow.Author.Needs.{needs}
 use borrow.Author.Tests.{ne-eqb}
-use lib.ListN.{getD}
+use lib.ListN.{length, getD}
+use Rattle.model.specs.Columns.{rowBytes}
 use Rattle.model.specs.Cycles.{Looked}
 use Rattle.state.specs.Plain.{context}
 use Rattle.recent.specs.Notes.{plainSpan, outside}
-use Rattle.recent.proofs.NoteLaws.{noted-before}
 use Rattle.recent.proofs.recall.Statement.{statement}
 use Rattle.recent.proofs.recall.Tie as tie
 
@@ -19,13 +20,11 @@ inside : (c : tie.After-slot-of)
     outside (plainSpan (a .span)) (context (a .x)) ≡ false
 inside c = sym (c .before .before .is-outside .ensures) ∙ c .before .if1 .left
 
--- the entry is that of a row before
-noted : (c : tie.After-slot-of)
+-- the noted row is there
+there : (c : tie.After-slot-of)
     → let a = c .before .before .before .before .args in
-    getD (a .notes .now) (c .slot-of .result) 0 ≤ a .row - 1
-noted c =
-    let start = c .before .before .before .before in
-    rw (c .slot-of .ensures) (noted-before (start .pre .1) (context (start .args .x)))
+    (getD (a .notes .now) (c .slot-of .result) 0 + 1) * rowBytes ≤ length (a .t .now)
+there c = c .before .before .before .before .pre (c .slot-of .result) (omega (arith, c .slot-of .ensures))
 
 is-outside-requires : tie.Need-is-outside-requires
 is-outside-requires c κs = search needs
@@ -46,7 +45,7 @@ element-copy-out-last : tie.Need-element-copy-out-last
 element-copy-out-last c = search needs
 
 cast-last : tie.Need-cast-last
-cast-last c = omega (arith, noted (c .before))
+cast-last c = omega (arith, there (c .before))
 
 start-state-requires-2 : tie.Need-start-state-requires-2
 start-state-requires-2 c κs = search needs
@@ -58,15 +57,10 @@ returns-2 c =
     rw (inside slot, ← slot .slot-of .ensures, test .if2 .taken) (c .start-state2 .ensures)
 
 has-context-requires : tie.Need-has-context-requires
-has-context-requires c κs =
-    let slot = c .before .before in
-    omega (arith, noted slot, c .if2 .left, slot .before .before .before .before .pre .0)
+has-context-requires c κs = there (c .before .before)
 
 state-at-requires : tie.Need-state-at-requires
-state-at-requires c κs =
-    let test = c .before .before in
-    let slot = test .before .before in
-    omega (arith, noted slot, test .if2 .left, slot .before .before .before .before .pre .0)
+state-at-requires c κs = there (c .before .before .before .before)
 
 returns-3 : tie.Need-returns-3
 returns-3 c =
@@ -76,18 +70,29 @@ returns-3 c =
     let slot = some .before .before in
     rw (inside slot, ← slot .slot-of .ensures, ne-eqb _ 0 (some .if2 .left), sym (read .has-context .ensures) ∙ own .if3 .taken) (c .state-at .ensures)
 
+stamp-at-requires : tie.Need-stamp-at-requires
+stamp-at-requires c κs = there (c .before .before .before .before)
+
+cast-cycles : tie.Need-cast-cycles
+cast-cycles c = search needs
+
+add-state-before : tie.Need-add-state-before
+add-state-before c = omega (arith, there (c .before .before .before .before .before))
+
 state-before-requires : tie.Need-state-before-requires
-state-before-requires c κs = search needs
+state-before-requires c κs = there (c .before .before .before .before .before)
 
 returns-4 : tie.Need-returns-4
 returns-4 c =
     let looked = c .before in
-    let other = looked .before in
+    let stamp = looked .before in
+    let other = stamp .before in
     let read = other .before in
     let some = read .before in
     let slot = some .before .before in
+    let a = slot .before .before .before .before .args in
     rw (inside slot, ← slot .slot-of .ensures, ne-eqb _ 0 (some .if2 .left), sym (read .has-context .ensures) ∙ other .if3 .left)
-    (ap (λ (a : Looked). a .state) (looked .state-before .ensures))
+    (ap (λ (a : Looked). a .state) (looked .state-before .ensures) ∙ rw (stamp .stamp-at .ensures, add-one (getD (a .notes .now) (slot .slot-of .result) 0)))
 
 pub recall-spec : {M : Type 1} → statement M
 recall-spec =
@@ -105,5 +110,8 @@ recall-spec =
     has-context-requires
     state-at-requires
     returns-3
+    stamp-at-requires
+    cast-cycles
+    add-state-before
     state-before-requires
     returns-4)

@@ -13,6 +13,7 @@ use Rattle.claim.specs.Told.{plainClaim}
 use Rattle.count.specs.Counts.{plainCounts}
 use Rattle.count.proofs.CountLaws.{counts-none}
 use Rattle.recent.specs.Notes.{slotOf, plainSpan}
+use Rattle.recent.proofs.NoteLaws.{noted-in}
 use Rattle.checker.specs.Steps.{cycleNext}
 use Rattle.checker.proofs.RowLaws.{meets-first, told-accepted}
 use Rattle.checker.proofs.CycleLaws.{Walked, walked-first, walked-stamp, walked-few, recalls-sound, next-fits, walked-next, last-le}
@@ -59,7 +60,7 @@ cycle-stands-requires c κs =
     let at = c .before .before .before .before in
     let l = at .loop in
     let start = at .before .before .before .before .before in
-    (start .pre .0, (l .inv .within, (omega (arith, walked-few (l .inv)), (l .inv .known, recalls-sound (l .inv) _))))
+    (start .pre .0, (l .inv .within, (omega (arith, walked-few (l .inv)), (noted-in (l .inv .known) _ (l .inv .ready .some) (omega (arith, l .inv .within, start .pre .0)), recalls-sound (l .inv) _))))
 
 verdict-from-requires-2 : tie.Need-verdict-from-requires-2 Inv-loop μ-loop
 verdict-from-requires-2 c κs =
