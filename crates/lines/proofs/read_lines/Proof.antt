@@ -5,12 +5,10 @@
 use Prim.Native.Nat.{suc, _+_, _-_}
 use mathlib.Core.Bool.{true, false, false≢true}
 use mathlib.Core.Logic.{⊎-elim}
-use mathlib.Core.Path.{_≡_, refl, sym, _∙_}
+use mathlib.Core.Path.{_≡_, sym, _∙_}
 use native.Mathlib.Omega.{arith}
 use borrow.Author.Needs.{needs}
 use lib.ListN.{length}
-use Rattle.form.specs.Hex.{isDigit, digitOf}
-use Rattle.form.specs.Table.{digitTable}
 use Rattle.recent.specs.Notes.{plainSpan}
 use Rattle.lines.proofs.CountLaws.{More, counted-end, counted-refused, counted-next}
 use Rattle.lines.proofs.WriteLaws.{Passing, passing-first, length-kept, passing-end, passing-refused, passing-next, Filling, Turn, turn-writable, filling-next}
@@ -24,6 +22,9 @@ Inv-loop list buf₀ first writes digits notes₀ span₀ at₀ row₀ done₀ b
 abbrev μ-loop : tie.MeasureT-loop
 μ-loop list buf₀ first writes digits notes₀ span₀ at₀ row₀ done₀ buf notes span at row done = length list - at
 
+digit-table-requires : tie.Need-digit-table-requires Inv-loop μ-loop
+digit-table-requires c κs = search needs
+
 no-span-requires : tie.Need-no-span-requires Inv-loop μ-loop
 no-span-requires c κs = search needs
 
@@ -34,8 +35,7 @@ add-next-line : tie.Need-add-next-line Inv-loop μ-loop
 add-next-line c = search needs
 
 next-line-requires : tie.Need-next-line-requires Inv-loop μ-loop
-unfolding digitTable isDigit digitOf
-next-line-requires c κs = refl
+next-line-requires c κs = search needs
 
 enum-told : tie.Need-enum-told Inv-loop μ-loop
 enum-told c = search needs
@@ -50,7 +50,7 @@ returns : tie.Need-returns Inv-loop μ-loop
 returns c =
     let call = c .before .before in
     let l = call .before .before in
-    let start = l .before .before .before .before in
+    let start = l .before .before .before .before .before in
     let told = sym (call .next-line .ensures) ∙ c .enum-told .given .1 in
     (counted-end (l .loop .inv .counted) _ told, passing-end (l .loop .inv) (start .pre .1 .1) _ told)
 
@@ -65,7 +65,7 @@ returns-2 c =
     let line = c .before in
     let call = line .before .before in
     let l = call .before .before in
-    let start = l .before .before .before .before in
+    let start = l .before .before .before .before .before in
     let told = sym (call .next-line .ensures) ∙ line .line .given .1 in
     (counted-refused (l .loop .inv .counted) told, passing-refused (l .loop .inv) (start .pre .1 .1) _ told)
 
@@ -79,14 +79,14 @@ claim-of-requires c κs = search needs
 turn : (c : tie.After-claim-of Inv-loop μ-loop)
     → let line = c .before .before in
     let l = line .before .before .before .before .loop in
-    let a = line .before .before .before .before .before .before .before .before .args in
+    let a = line .before .before .before .before .before .before .before .before .before .args in
     let one = line .line2 .given .0 in
     a .writes ≡ true → Turn (a .list .now) (a .buf .now) (l .buf) (l .notes) (plainSpan (l .span)) (a .first) (l .at) (l .row) (l .done) (one .1 .0) (one .0) (c .claim-of .result)
 turn c writes =
     let line = c .before .before in
     let read = line .before .before in
     let l = read .before .before in
-    let start = l .before .before .before .before in
+    let start = l .before .before .before .before .before in
     record {
       writable = start .pre .1 .1 writes;
       filling = l .loop .inv .filling writes;
@@ -107,7 +107,7 @@ more : (c : tie.After-rows-of Inv-loop μ-loop)
     → let claimed = c .before .before in
     let line = claimed .before .before in
     let turn = line .before .before .before .before in
-    let a = turn .before .before .before .before .args in
+    let a = turn .before .before .before .before .before .args in
     let l = turn .loop in
     More (a .list .now) (l .at) (l .done) (l .row - a .first) (line .line2 .given .0 .1 .0) (c .rows-of .result)
 more c =
@@ -119,7 +119,7 @@ more c =
 add-row : tie.Need-add-row Inv-loop μ-loop
 add-row c =
     let l = c .before .before .before .before .before .before .before .before in
-    let start = l .before .before .before .before in
+    let start = l .before .before .before .before .before in
     let k = l .loop .inv .counted in
     omega (arith, more c .small, k .few, k .reached .ahead, k .reached .inside, l .loop .inv .ahead, start .pre .0, start .pre .1 .0)
 
@@ -129,7 +129,7 @@ widened-requires c κs = search needs
 add-done : tie.Need-add-done Inv-loop μ-loop
 add-done c =
     let l = c .before .before .before .before .before .before .before .before .before in
-    let start = l .before .before .before .before in
+    let start = l .before .before .before .before .before in
     let k = l .loop .inv .counted .reached in
     omega (arith, k .ahead, k .inside, start .pre .0)
 
@@ -154,6 +154,7 @@ read-lines-spec =
     (tie.spec
     Inv-loop
     μ-loop
+    digit-table-requires
     no-span-requires
     loop-holds
     add-next-line
