@@ -12,7 +12,7 @@ use borrow.Author.Tests.{leb-true, eqb-false, ne-eqb, le-leb, lt-leb, not-true}
 use lib.Dec.{eqb, leb}
 use lib.ListN.{set, replicate}
 use Rattle.number.proofs.TestLaws.{both}
-use Rattle.model.specs.Columns.{Cells, columns, cellsIn, ofList, emptyRow, table}
+use Rattle.model.specs.Columns.{Cells, columns, cellsIn, emptyRow, table}
 use Rattle.model.specs.Constraints.{inUse, outLast}
 use Rattle.model.specs.Cycles.{Claim, Counts, starts, counts}
 use Rattle.model.specs.Promises.{ValidClaim}
@@ -21,11 +21,12 @@ use Rattle.model.specs.Tests.{pick, zeros}
 use Rattle.model.specs.Trace.{inBounds, lastOf, rowOf}
 use Rattle.model.specs.Verdict.{rowBefore, before}
 use Rattle.model.proofs.OneCycle.{Ready, CycleAt, ready-first, ready-next, counts-cycle}
-use Rattle.model.proofs.TestFacts.{pick-has, zeros-are}
+use Rattle.model.proofs.TestFacts.{pick-has}
 use Rattle.model.proofs.VerdictLaws.{judged-meet}
 use Rattle.state.proofs.LookLaws.{stamp-before-new}
 use Rattle.compare.specs.Same.{cycleStands}
 use Rattle.compare.proofs.SameLaws.{cycle-stands}
+use Rattle.compare.proofs.ZeroLaws.{zeros-empty}
 use Rattle.recent.specs.Notes.{slots, slotOf, Span, wider, Known, recalled}
 use Rattle.recent.proofs.NoteLaws.{known-none, known-cycle, recalled-before}
 use Rattle.count.proofs.CountLaws.{Below, counts-none, counts-next, counts-below}
@@ -73,7 +74,7 @@ module _ (r : ℕ → Cells) where
       by true e h rest (yes later) = rest later h
       by true e h rest (no here) =
           let same : i ≡ j = omega arith in
-          rw (← same) (ap ofList (zeros-are (cellsIn columns (r i)) e))
+          rw (← same) (zeros-empty (r i) e)
       by false e h rest d = absurd (omega arith)
 
 -- so many empty rows and nothing else

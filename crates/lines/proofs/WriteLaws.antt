@@ -12,7 +12,7 @@ use Rattle.number.proofs.StoreLaws.{sets-append}
 use Rattle.model.specs.Columns.{Cells, emptyRow, rowBytes, rowAt, bytesOf}
 use Rattle.model.specs.Cycles.{Claim}
 use Rattle.model.specs.Promises.{Valid}
-use Rattle.model.specs.State.{Context, State, Sound, fresh}
+use Rattle.model.specs.State.{Context, State, fresh}
 use Rattle.model.specs.Trace.{lastOf, cycleOf, afterClaims, cycleAfter, cyclesOf, trace}
 use Rattle.model.specs.Verdict.{maxRows}
 use Rattle.model.proofs.AloneLaws.{all-sound-claims}
@@ -25,7 +25,7 @@ use Rattle.model.proofs.StateLaws.{all-sound-fresh}
 use Rattle.row.proofs.RowLaws.{write-more}
 use Rattle.state.specs.Plain.{context}
 use Rattle.recent.specs.Notes.{slots, slotOf, Span, noSpan, wider, Known, recalled}
-use Rattle.recent.proofs.NoteLaws.{known-same}
+use Rattle.recent.proofs.NoteLaws.{noted-in}
 use Rattle.refusal.specs.declared.Refusal.{Refusal}
 use Rattle.claim.specs.Claims.{claimOf}
 use Rattle.claim.specs.Instruction.{Instruction}
@@ -163,22 +163,24 @@ module _ {t l buf notes : List ℕ} {s : Span} {first at row k q : ℕ} {i : cod
   known-there = subst (Known notes s (traceRow first claims)) row-is (f .known)
 
   -- the state that is recalled is the one after the claims
-  recalls : (x : Context) → recalled (rowAt buf) notes s x k row ≡ afterClaims fresh claims x
-  recalls x =
-      ap₂ (recalled (rowAt buf) notes s x) count-is row-is ∙ recalled-after first claims (w .some) valid there known-there x
+  recalls : (x : Context) → recalled (rowAt buf) notes s x ≡ afterClaims fresh claims x
+  recalls = recalled-after first claims (w .some) valid there known-there
+
+  room : (row + suc (lastOf (plainClaim c))) * rowBytes ≤ length buf
+  room =
+      omega (arith, w .room, rows-there, ap lastOf own, ap length (f .bytes), length-sets l (first * rowBytes) (bytesOf (cyclesOf 1 fresh claims)), f .rows)
 
   -- its cycle may be written next
   pub turn-writable : NextWritable buf notes s row k (plainClaim c)
   turn-writable = record {
-    room =
-        omega (arith, w .room, rows-there, ap lastOf own, ap length (f .bytes), length-sets l (first * rowBytes) (bytesOf (cyclesOf 1 fresh claims)), f .rows);
+    room = room;
     few = omega (arith, w .few, rows-there, ap lastOf own, f .rows);
     before = few-claims;
-    known = known-same (f .known) (rowAt buf) (λ j h. there j (omega (arith, row-is)));
+    noted = noted-in (f .known) (length buf) (omega (arith, f .rows, w .some)) (omega (arith, room));
     sound = rw (recalls (context (c .context))) (all-sound-claims fresh claims all-sound-fresh (context (c .context)));
   }
 
-  cycle-is : cycleOf (suc k) (recalled (rowAt buf) notes s (context (c .context)) k row) (plainClaim c) ≡ cycleAfter claims new
+  cycle-is : cycleOf (suc k) (recalled (rowAt buf) notes s (context (c .context))) (plainClaim c) ≡ cycleAfter claims new
   cycle-is =
       ap (λ (x : State). cycleOf (suc k) x (plainClaim c)) (recalls (context (c .context)))
       ∙ ap (λ (d : Claim). cycleOf (suc k) (afterClaims fresh claims (d .context)) d) own
@@ -186,7 +188,7 @@ module _ {t l buf notes : List ℕ} {s : Span} {first at row k q : ℕ} {i : cod
 
   -- once it is written at that state and the last of its n rows is noted, one line more was read and its cycle written
   pub filling-next : {m noted : List ℕ} {u : Span} {n : ℕ} → n ≡ suc (lastOf (plainClaim c))
-      → m ≡ sets buf (row * rowBytes) (bytesOf (cycleOf (suc k) (recalled (rowAt buf) notes s (context (c .context)) k row) (plainClaim c)))
+      → m ≡ sets buf (row * rowBytes) (bytesOf (cycleOf (suc k) (recalled (rowAt buf) notes s (context (c .context))) (plainClaim c)))
       → noted ≡ set notes (slotOf (context (c .context))) (row + lastOf (plainClaim c)) → u ≡ wider s (context (c .context))
       → Filling t l m noted u first q (row + n) (suc k)
   unfolding trace

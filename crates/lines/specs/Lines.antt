@@ -11,7 +11,7 @@ use Rattle.model.specs.Cycles.{Claim}
 use Rattle.model.specs.State.{Sound, fresh}
 use Rattle.model.specs.Trace.{lastOf, cyclesOf}
 use Rattle.model.specs.Verdict.{maxRows}
-use Rattle.recent.specs.Notes.{Span, Known, recalled}
+use Rattle.recent.specs.Notes.{Span, notedIn, recalled}
 use Rattle.refusal.specs.Refusals.{inLine}
 use Rattle.claim.specs.Claims.{claimOf}
 use Rattle.claim.specs.Instruction.{Instruction}
@@ -61,8 +61,8 @@ pub record NextWritable (l notes : List ℕ) (s : Span) (row cycles : ℕ) (c : 
   pub room : (row + suc (lastOf c)) * rowBytes ≤ length l
   pub few : row + suc (lastOf c) ≤ maxRows
   pub before : cycles < maxRows
-  pub known : Known notes s (rowAt l) row
-  pub sound : Sound (recalled (rowAt l) notes s (c .context) cycles row)
+  pub noted : notedIn (length l) notes
+  pub sound : Sound (recalled (rowAt l) notes s (c .context))
 
 -- the bytes l, with the cycles of the claims from row `first` on where they are written
 abbrev pub cyclesWritten : (writes : Bool) → (first : ℕ) → List Claim → (l : List ℕ) → List ℕ

@@ -62,11 +62,11 @@ fn put_claim(
 )
     requires { ⌜ NextWritable (now buf) (now notes) (plainSpan span) row cycles (plainClaim c) ⌝ }
     ensures { λ _. ⌜ now (buf .exit) ≡ sets (now (buf .entry)) (row * rowBytes)
-        (bytesOf (cycleOf (suc cycles) (recalled (rowAt (now (buf .entry))) (now (notes .entry)) (plainSpan span) (context (c .context)) cycles row) (plainClaim c))) ⌝ }
+        (bytesOf (cycleOf (suc cycles) (recalled (rowAt (now (buf .entry))) (now (notes .entry)) (plainSpan span) (context (c .context))) (plainClaim c))) ⌝ }
     ensures { λ _. ⌜ now (notes .exit) ≡ set (now (notes .entry)) (slotOf (context (c .context))) (row + lastOf (plainClaim c)) ⌝ }
 {
     let own = c.context;
-    let before = recall(buf, notes, span, row, cycles, own);
+    let before = recall(buf, notes, span, own);
     put_cycle(buf, row, cycles as u32 + 1, before, c);
     note(notes, own, row + rows_of(c) - 1);
 }

@@ -7,7 +7,7 @@ use mathlib.Core.Path.{_≡_, refl, sym, _∙_}
 use native.Mathlib.Decide.{decLt}
 use native.Mathlib.Nat.{add-suc, add-zero, le-step, lt-suc-self}
 use native.Mathlib.Omega.{arith}
-use borrow.Author.Tests.{eqb-true, eqb-false, ne-eqb}
+use borrow.Author.Tests.{eqb-true, eqb-false}
 use lib.Dec.{eqb}
 use lib.ListN.{getD, set, replicate, length-set, length-replicate, getD-replicate}
 use lib.Seq.{getD-set-same, getD-set-other}
@@ -20,7 +20,6 @@ use Rattle.model.specs.Trace.{lastOf, rowOf}
 use Rattle.model.specs.Verdict.{passed, before}
 use Rattle.model.proofs.ReadBack.{is-row, last-of-row, row-used}
 use Rattle.model.proofs.TestFacts.{eqb-self, pick-has, pick-second}
-use Rattle.state.specs.Look.{lookBack}
 use Rattle.state.specs.Order.{lowerContext}
 use Rattle.state.proofs.LookLaws.{HoldBefore, look-before}
 use Rattle.state.proofs.OrderLaws.{lower-self, lower-trans, told-apart}

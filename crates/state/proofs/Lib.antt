@@ -2,4 +2,3 @@
 pub mod OrderLaws
 pub mod SearchLaws
 pub mod LookLaws
-pub mod AfterLaws

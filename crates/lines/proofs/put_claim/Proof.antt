@@ -13,7 +13,7 @@ use Rattle.lines.proofs.put_claim.Tie as tie
 -- the state that the call answers
 answers : (c : tie.After-recall)
     → let a = c .before .before .before .before .before .args in
-    state (c .recall .result) ≡ recalled (rowAt (a .buf .now)) (a .notes .now) (plainSpan (a .span)) (context (a .c .context)) (a .cycles) (a .row)
+    state (c .recall .result) ≡ recalled (rowAt (a .buf .now)) (a .notes .now) (plainSpan (a .span)) (context (a .c .context))
 answers c = c .recall .ensures
 
 recall-requires : tie.Need-recall-requires
