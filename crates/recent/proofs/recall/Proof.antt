@@ -1,14 +1,14 @@
 -- `recent::recall` meets its contract by the cases of `recalled`. A noted row stands in the bytes, and so do the rows before it.
-use Prim.Native.Nat.{_+_, _*_, _≤_}
+use Prim.Native.Nat.{ℕ, _+_, _*_, _≤_}
 use mathlib.Core.Bool.{false}
-use mathlib.Core.Path.{_≡_, sym, _∙_, ap}
-use native.Mathlib.Numerals.{add-one}
+use mathlib.Core.Path.{_≡_, sym, _∙_, ap, ap₂}
 use native.Mathlib.Omega.{arith}
 use borrow.Author.Needs.{needs}
 use borrow.Author.Tests.{ne-eqb}
 use lib.ListN.{length, getD}
-use Rattle.model.specs.Columns.{rowBytes}
+use Rattle.model.specs.Columns.{rowBytes, rowAt}
 use Rattle.model.specs.Cycles.{Looked}
+use Rattle.state.specs.Look.{lookBack}
 use Rattle.state.specs.Plain.{context}
 use Rattle.recent.specs.Notes.{plainSpan, outside}
 use Rattle.recent.proofs.recall.Statement.{statement}
@@ -80,7 +80,7 @@ add-state-before : tie.Need-add-state-before
 add-state-before c = omega (arith, there (c .before .before .before .before .before))
 
 state-before-requires : tie.Need-state-before-requires
-state-before-requires c κs = there (c .before .before .before .before .before)
+state-before-requires c κs = omega (arith, there (c .before .before .before .before .before))
 
 returns-4 : tie.Need-returns-4
 returns-4 c =
@@ -92,7 +92,8 @@ returns-4 c =
     let slot = some .before .before in
     let a = slot .before .before .before .before .args in
     rw (inside slot, ← slot .slot-of .ensures, ne-eqb _ 0 (some .if2 .left), sym (read .has-context .ensures) ∙ other .if3 .left)
-    (ap (λ (a : Looked). a .state) (looked .state-before .ensures) ∙ rw (stamp .stamp-at .ensures, add-one (getD (a .notes .now) (slot .slot-of .result) 0)))
+    (ap (λ (b : Looked). b .state) (looked .state-before .ensures)
+    ∙ ap₂ (λ (limit to : ℕ). lookBack (rowAt (a .t .now)) (context (a .x)) limit to .state) (stamp .stamp-at .ensures) (omega arith))
 
 pub recall-spec : {M : Type 1} → statement M
 recall-spec =
