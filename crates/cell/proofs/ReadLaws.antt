@@ -1,8 +1,8 @@
 -- Little-endian numbers that are read: in two parts, and with their bytes the other way round.
-use Prim.Native.Nat.{ℕ, zero, suc, _+_, _*_, _/_, _%_, _^_, _<_, _≤_}
+use Prim.Native.Nat.{ℕ, zero, suc, _+_, _*_, _/_, _%_, _^_, _≤_}
 use mathlib.Core.List.{List}
-use mathlib.Core.Path.{_≡_, refl, sym, _∙_, ap}
-use native.Mathlib.Nat.{add-zero, add-suc, suc-add, add-assoc, mul-assoc, add-mul, zero-mul, pow-suc, pow-succ'}
+use mathlib.Core.Path.{_≡_, sym, _∙_, ap}
+use native.Mathlib.Nat.{add-zero, suc-add, mul-assoc, add-mul, pow-suc, pow-succ'}
 use native.Mathlib.Omega.{arith}
 use lib.ListN.{length, getD}
 use Rattle.number.specs.Num.{num, AllBytes}

@@ -8,7 +8,7 @@ use native.Mathlib.Numerals.{add-one}
 use native.Mathlib.Omega.{arith}
 use lib.Dec.{eqb}
 use Rattle.number.proofs.TestLaws.{both, both-intro}
-use Rattle.model.specs.Columns.{Cells, Column, upToGas, fromComp, columns, cellsIn, widths, ofList, rowBytes, rowAt}
+use Rattle.model.specs.Columns.{Cells, Column, upToGas, fromComp, columns, cellsIn, ofList, rowBytes, rowAt}
 use Rattle.model.specs.Constraints.{inLast, outLast, equal}
 use Rattle.model.specs.Cycles.{Claim}
 use Rattle.model.specs.State.{State}

@@ -1,5 +1,5 @@
 -- Bytes that are 0, and cells that are.
-use Prim.Native.Nat.{ℕ, zero, suc, _+_, _*_, _^_, _<_}
+use Prim.Native.Nat.{ℕ, _+_, _*_, _^_, _<_}
 use mathlib.Core.Bool.{Bool, true, _&&_}
 use mathlib.Core.List.{List, [], _∷_}
 use mathlib.Core.Logic.{⊎-elim}
@@ -17,7 +17,7 @@ use Rattle.number.proofs.TestLaws.{same-test, both, both-intro}
 use Rattle.model.specs.Columns.{Cells, columns, cellsIn, widths, rowBytes, ofList, emptyRow, rowAt}
 use Rattle.model.specs.Tests.{zeros}
 use Rattle.model.proofs.TestFacts.{zeros-are}
-use Rattle.row.specs.Plain.{cellsFrom, from}
+use Rattle.row.specs.Plain.{cellsFrom}
 use Rattle.row.proofs.PlaceLaws.{from-row}
 
 -- a number in two parts is 0 where both parts are

@@ -1,5 +1,5 @@
 -- Cells that fit three bytes.
-use Prim.Native.Nat.{ℕ, _^_, _<_}
+use Prim.Native.Nat.{_^_, _<_}
 use Rattle.model.specs.Columns.{Cells}
 
 -- the cells of three bytes that are compared with a neighbour fit them

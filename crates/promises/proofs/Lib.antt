@@ -7,6 +7,7 @@ pub mod Opcode
 pub mod Gas
 pub mod Model
 pub mod Row
+pub mod Compare
 pub mod Writer
 pub mod Refusal
 pub mod State

@@ -9,7 +9,7 @@ use reference::{MAX_ROWS, ROW_BYTES};
 use crate::Outcome;
 use crate::bounds::Bounds;
 use crate::call::{Answer, Call};
-use crate::input::{Input, Lent, MOST_IN_BOUNDS};
+use crate::input::{Input, Lent, MOST_IN_BOUNDS, SEED};
 use crate::timing::{Budget, Times, quickest};
 
 /// What a bound on the library's time goes by.
@@ -41,6 +41,8 @@ pub struct Case {
     pub beside: Beside,
     /// The bounds on the library's time, and what they go by.
     pub bounds: Option<(By, Bounds)>,
+    /// So many inputs of the kind are gone through one after another, no two of them the same.
+    pub inputs: u64,
 }
 
 /// The refusal of a list that makes more rows than a trace may have.
@@ -62,7 +64,7 @@ pub struct Measured {
 impl Case {
     /// A call on an input beside the reference, without bounds.
     pub fn new(call: Call, input: Input) -> Case {
-        Case { call, input, beside: Beside::Reference, bounds: None }
+        Case { call, input, beside: Beside::Reference, bounds: None, inputs: 1 }
     }
 
     /// The same call on one context, a full trace.
@@ -75,22 +77,30 @@ impl Case {
         format!("{}:{}", self.call.names().0, self.input.names().0)
     }
 
-    /// What the call is lent.
+    /// What the call is lent; of several inputs, the first.
     pub fn lent(&self) -> Outcome<Lent> {
+        self.lent_for(SEED)
+    }
+
+    fn lent_for(&self, seed: u64) -> Outcome<Lent> {
         match self.call {
-            Call::Fill => Ok(self.input.with_buffer()),
-            _ => self.input.with_trace(),
+            Call::Fill => Ok(self.input.with_buffer(seed)),
+            _ => self.input.with_trace(seed),
         }
     }
 
-    /// Compares the answers of both sides, then times both.
+    /// Compares the answers of both sides on each input, then times both over all of them.
     pub fn measure(&self, budget: Budget) -> Outcome<Measured> {
-        let mut lent = self.lent()?;
-        let answer = self.agreed(&mut lent)?;
-        let library = |lent: &mut Lent| self.call_library(lent);
-        let other = |lent: &mut Lent| self.call_other(lent);
-        let times = quickest(budget, &mut lent, library, other);
-        let (units, unit) = self.units(&lent, &answer);
+        let mut inputs = (0..self.inputs).map(|place| self.lent_for(SEED + place)).collect::<Outcome<Vec<Lent>>>()?;
+        let (mut units, mut unit) = (0, "");
+        for lent in &mut inputs {
+            let answer = self.agreed(lent)?;
+            let (more, of) = self.units(lent, &answer);
+            (units, unit) = (units + more, of);
+        }
+        let library = |inputs: &mut Vec<Lent>| inputs.iter_mut().for_each(|lent| self.call_library(lent));
+        let other = |inputs: &mut Vec<Lent>| inputs.iter_mut().for_each(|lent| self.call_other(lent));
+        let times = quickest(budget, &mut inputs, library, other);
         Ok(Measured { case: *self, times, units, unit })
     }
 
@@ -211,6 +221,15 @@ mod tests {
             let told = case.agreed(&mut lent).expect_err("both refuse it");
             assert!(told.contains("both answer what is not meant"), "{told}");
         }
+    }
+
+    #[test]
+    fn several_inputs_are_gone_through_and_no_two_are_the_same() {
+        let case = Case { inputs: 3, ..Case::new(Call::Check, Input::Block { rows: 1_000 }) };
+        let lists = [0, 1, 2].map(|place| case.lent_for(SEED + place).expect("the reference fills it").list);
+        assert!(lists[0] != lists[1] && lists[1] != lists[2] && lists[0] == case.lent().expect("the same").list);
+        let measured = case.measure(Budget { passes: 1, time: Duration::ZERO, rounds: 1 }).expect("both agree");
+        assert_eq!((measured.units, measured.unit), (3_000, "row"));
     }
 
     #[test]

@@ -9,8 +9,9 @@ use crate::block::Block;
 use crate::program::{self, Program};
 use crate::random::Random;
 
-/// The seed of every list, so that it is the same in every run.
-const SEED: u64 = 1;
+/// The seed of every list, so that it is the same in every run; where there are several of one kind, the next have the
+/// next.
+pub const SEED: u64 = 1;
 /// The empty rows of every trace.
 pub const EMPTY_ROWS: u64 = 1;
 /// So many instructions in bounds fill a trace, each with three rows.
@@ -85,9 +86,9 @@ impl Input {
         }
     }
 
-    /// The text of the list.
-    pub fn list(self) -> Vec<u8> {
-        let random = &mut Random::new(SEED);
+    /// The text of the list for a seed.
+    fn list(self, seed: u64) -> Vec<u8> {
+        let random = &mut Random::new(seed);
         match self {
             Input::One { rows } => in_turn(1, in_bounds_of(rows), random),
             Input::Interleaved => in_turn(64, MOST_IN_BOUNDS, random),
@@ -112,14 +113,22 @@ impl Input {
         matches!(self, Input::MostBytes | Input::LongestLines)
     }
 
-    /// The list and a buffer of the full size.
-    pub fn with_buffer(self) -> Lent {
-        Lent { list: self.list(), trace: vec![OLD_BYTE; MAX_ROWS * ROW_BYTES] }
+    /// The rows of its trace, or as many as a trace may have.
+    fn rows(self) -> usize {
+        match self {
+            Input::One { rows } | Input::Block { rows } => rows,
+            _ => MAX_ROWS,
+        }
     }
 
-    /// The list and its trace.
-    pub fn with_trace(self) -> Outcome<Lent> {
-        let mut lent = self.with_buffer();
+    /// The list for a seed, and a buffer that is large enough.
+    pub fn with_buffer(self, seed: u64) -> Lent {
+        Lent { list: self.list(seed), trace: vec![OLD_BYTE; self.rows() * ROW_BYTES] }
+    }
+
+    /// The list for a seed, and its trace.
+    pub fn with_trace(self, seed: u64) -> Outcome<Lent> {
+        let mut lent = self.with_buffer(seed);
         let filled = reference::fill(&lent.list, EMPTY_ROWS, &mut lent.trace);
         let rows = filled.map_err(|refusal| format!("{}: the reference answers {refusal}", self.names().1))?;
         lent.trace.truncate(rows * ROW_BYTES);
@@ -192,7 +201,7 @@ mod tests {
     use std::collections::HashSet;
 
     fn trace(input: Input) -> Vec<u8> {
-        input.with_trace().expect("the reference fills it").trace
+        input.with_trace(SEED).expect("the reference fills it").trace
     }
 
     fn contexts(trace: &[u8]) -> Vec<u32> {
@@ -263,7 +272,7 @@ mod tests {
     fn the_longest_lists_are_right_to_the_end_and_too_much() {
         for input in [Input::MostBytes, Input::LongestLines] {
             assert!(input.is_too_much());
-            let Lent { list, mut trace } = input.with_buffer();
+            let Lent { list, mut trace } = input.with_buffer(SEED);
             assert_eq!(list.len(), MAX_LIST, "{input:?}");
             let too_many_rows = Refusal { number: 7, line: 0 };
             assert_eq!(reference::fill(&list, EMPTY_ROWS, &mut trace), Err(too_many_rows), "{input:?}");

@@ -60,9 +60,14 @@ fn on_traces(call: Call, on_programs: Bounds) -> impl Iterator<Item = Case> {
     programs.into_iter().chain(others).chain(many)
 }
 
-/// A call on blocks of calls with more and more rows.
+/// A call on blocks of calls with more and more rows. Of each size there are as many blocks as have about the rows of a
+/// full trace together: a single short one, called again and again, would be found in the nearest cache, with every
+/// branch foreseen.
 pub fn growing(call: Call) -> [Case; GROWING_ROWS.len()] {
-    GROWING_ROWS.map(|rows| Case::new(call, Input::Block { rows }))
+    GROWING_ROWS.map(|rows| {
+        let inputs = (MAX_ROWS / rows) as u64;
+        Case { inputs, ..Case::new(call, Input::Block { rows }) }
+    })
 }
 
 /// Check and fill beside the least that any of the two could do with a trace.
@@ -111,6 +116,7 @@ mod tests {
     fn growth_is_seen_on_blocks_of_calls() {
         for call in [Call::Check, Call::Fill] {
             assert!(growing(call).iter().all(|case| case.input.names().0 == "block"));
+            assert_eq!(growing(call).map(|case| case.inputs), [65, 16, 4, 1]);
         }
         assert_eq!((GROWTH.floor, GROWTH.target), (1.3, 1.15));
     }

@@ -42,7 +42,7 @@ out-is-requires c κs =
     let start = off .before .before .before .before .before .before in
     let words = off .push .ok in
     let fits = val-lt (off .push .result) (omega (arith, words)) (omega (arith, words)) (omega (arith, words)) in
-    let shown = shift-next (l .acc .top) (off .before .loop-test .taken) (l .inv .1) (off .push .ensures) (c .push2 .ensures) fits in
+    let shown = shift-next (l .acc .top) (omega arith) (l .inv .1) (off .push .ensures) (c .push2 .ensures) fits in
     (omega arith, (start .pre .1 .0, (shown .digit, shown .prefix)))
 
 returns : tie.Need-returns Inv-loop μ-loop
@@ -64,7 +64,7 @@ loop-again c =
     let l = off .before .before .loop in
     let words = off .push .ok in
     let fits = val-lt (off .push .result) (omega (arith, words)) (omega (arith, words)) (omega (arith, words)) in
-    let shown = shift-next (l .acc .top) (off .before .loop-test .taken) (l .inv .1) (off .push .ensures) (on .push2 .ensures) fits in
+    let shown = shift-next (l .acc .top) (omega arith) (l .inv .1) (off .push .ensures) (on .push2 .ensures) fits in
     let same = sym (asked .out-is .ensures) ∙ not-false (asked .out-is .result) (c .if1 .left) in
     (omega arith, rw add-one (shown .next), one-more _ _ _ (l .j) (l .inv .2) same)
 

@@ -1,6 +1,6 @@
 -- `compare::is_empty` meets its contract. The invariant: the answer so far is that of the bytes below byte k. The measure is the bytes that are left.
 -- Each turn is `zero-next`; the bytes of a row are 0 where its cells are (`row-zero`).
-use Prim.Native.Nat.{_*_, _-_, _≤_}
+use Prim.Native.Nat.{_-_, _≤_}
 use mathlib.Core.Path.{_≡_, _∙_}
 use native.Mathlib.Omega.{arith}
 use borrow.Author.Needs.{needs}

@@ -1,5 +1,5 @@
 -- `claim::claim::claim_shown` meets its contract: cell by cell, as they stand in the row (`from-row`).
-use mathlib.Core.Path.{sym, _∙_, ap}
+use mathlib.Core.Path.{_∙_, ap}
 use borrow.Author.Needs.{needs}
 use Rattle.model.specs.Columns.{Cells}
 use Rattle.row.proofs.PlaceLaws.{from-row}
