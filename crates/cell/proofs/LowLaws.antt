@@ -2,7 +2,7 @@
 use Prim.Native.Nat.{ℕ, zero, suc, _+_, _*_, _/_, _%_, _^_, _<_}
 use mathlib.Core.List.{List, [], _∷_, _++_, append-assoc, append-nil}
 use mathlib.Core.Path.{_≡_, refl, sym, _∙_, ap}
-use native.Mathlib.Nat.{div-add-mod', mod-lt, pow-suc, add-zero, zero-add, add-suc, suc-add, one-le-pow, mul-assoc, add-comm}
+use native.Mathlib.Nat.{div-add-mod', mod-lt, pow-suc, add-zero, zero-add, suc-add, one-le-pow, mul-assoc}
 use native.Mathlib.Numerals.{towards-suc}
 use native.Mathlib.Omega.{arith}
 use lib.ListN.{length, set}

@@ -9,7 +9,7 @@ pub fn join_1_1(a: u8, b: u8) -> u16
     (a as u16) * 256 + (b as u16)
 }
 
-pub fn join_2_2(a: u16, b: u16) -> u32
+pub(crate) fn join_2_2(a: u16, b: u16) -> u32
     ensures { λ r. ⌜ r ≡ a * 65536 + b ⌝ }
 {
     (a as u32) * 65536 + (b as u32)

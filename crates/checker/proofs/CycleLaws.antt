@@ -18,7 +18,7 @@ use Rattle.model.specs.Cycles.{Claim, Counts, starts, counts}
 use Rattle.model.specs.Promises.{ValidClaim}
 use Rattle.model.specs.State.{Context, State, Sound}
 use Rattle.model.specs.Tests.{pick, zeros}
-use Rattle.model.specs.Trace.{inBounds, lastOf, rowOf}
+use Rattle.model.specs.Trace.{inBounds, lastOf, rowOf, withCycle}
 use Rattle.model.specs.Verdict.{rowBefore, before}
 use Rattle.model.proofs.OneCycle.{Ready, CycleAt, ready-first, ready-next, counts-cycle}
 use Rattle.model.proofs.TestFacts.{pick-has}
@@ -30,7 +30,7 @@ use Rattle.compare.proofs.ZeroLaws.{zeros-empty}
 use Rattle.recent.specs.Notes.{slots, slotOf, Span, wider, Known, recalled}
 use Rattle.recent.proofs.NoteLaws.{known-none, known-cycle, recalled-before}
 use Rattle.count.proofs.CountLaws.{Below, counts-none, counts-next, counts-below}
-use Rattle.checker.specs.Steps.{emptyFrom, leadingEmpty, cycleNext, withCycle}
+use Rattle.checker.specs.Steps.{emptyFrom, leadingEmpty, cycleNext}
 
 -- ---- empty rows
 
@@ -188,11 +188,6 @@ module _ {r : ℕ → Cells} {n : ℕ} {notes : List ℕ} {span : Span} {done : 
           known = known-cycle (w .known) (w .ready .some) k (before r i (c .context)) c there;
           counted = ap (λ (x : Counts). withCycle x c) (w .counted) ∙ sym (counts-cycle r i k c there);
         })
-
--- a cycle has no more rows than one out of bounds
-pub last-le : (c : Claim) → lastOf c ≤ outLast
-unfolding lastOf
-last-le c = pick-has (λ (k : ℕ). k ≤ outLast) (inBounds c) (λ e. omega arith) (λ e. omega arith)
 
 -- a claim is out of bounds where its cycle has so many rows
 long-by : (c : Claim) (t : Bool) → inBounds c ≡ t → eqb (suc (lastOf c)) (suc outLast) ≡ not t

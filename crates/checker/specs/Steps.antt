@@ -4,9 +4,9 @@ use mathlib.Core.Bool.{Bool, not, _&&_}
 use mathlib.Core.List.{List}
 use lib.Dec.{eqb, leb}
 use Rattle.model.specs.Columns.{Cells, columns, cellsIn}
-use Rattle.model.specs.Cycles.{Claim, Counts}
-use Rattle.model.specs.Tests.{pick, bit, zeros}
-use Rattle.model.specs.Trace.{inBounds, lastOf}
+use Rattle.model.specs.Cycles.{Claim}
+use Rattle.model.specs.Tests.{pick, zeros}
+use Rattle.model.specs.Trace.{lastOf}
 use Rattle.compare.specs.Same.{cycleStands}
 use Rattle.recent.specs.Notes.{Span, recalled}
 
@@ -23,7 +23,3 @@ leadingEmpty r n = emptyFrom r 0 n
 unfoldable pub cycleNext : (ℕ → Cells) → (n : ℕ) → (notes : List ℕ) → Span → (i cycles : ℕ) → Claim → Bool
 cycleNext r n notes span i cycles c =
     not (eqb (c .context .cn) 0) && leb (i + suc (lastOf c)) n && cycleStands r i (suc cycles) (recalled r notes span (c .context)) c
-
--- the counts with the cycle of one claim more
-abbrev pub withCycle : Counts → Claim → Counts
-withCycle s c = record { instructions = s .instructions + 1; oob = s .oob + bit (not (inBounds c)); empty = s .empty }

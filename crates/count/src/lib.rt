@@ -20,7 +20,7 @@ pub struct Counts {
 }
 
 // Whether a cycle starts with a row that has this STAMP and CT.
-pub fn is_start(stamp: u32, ct: u8) -> bool
+fn is_start(stamp: u32, ct: u8) -> bool
     ensures { λ r. ⌜ r ≡ (not (eqb stamp 0) && eqb ct 0) ⌝ }
 {
     (stamp != 0) & (ct == 0)
@@ -34,7 +34,7 @@ pub fn starts_cycle(x: Row) -> bool
 }
 
 // One more row counted, which has this STAMP, OOOB and CT.
-pub fn count_cells(c: Counts, stamp: u32, ooob: u8, ct: u8) -> Counts
+fn count_cells(c: Counts, stamp: u32, ooob: u8, ct: u8) -> Counts
     requires { ⌜ c .instructions < maxRows ⌝ }
     requires { ⌜ c .oob < maxRows ⌝ }
     requires { ⌜ c .empty < maxRows ⌝ }

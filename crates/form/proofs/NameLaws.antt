@@ -2,7 +2,7 @@
 use Prim.Native.Nat.{ℕ, zero, suc, _+_, _*_, _/_, _%_, _^_, _≤_, _<_}
 use mathlib.Core.List.{List}
 use mathlib.Core.Path.{_≡_, _∙_}
-use native.Mathlib.Nat.{add-zero, zero-add, suc-add, mul-assoc, one-le-pow, pow-suc, div-add-mod', mod-lt, mod-eq-of-lt, mul-add-mod-self-right}
+use native.Mathlib.Nat.{add-zero, suc-add, mul-assoc, one-le-pow, pow-suc, div-add-mod', mod-lt, mod-eq-of-lt, mul-add-mod-self-right}
 use native.Mathlib.Omega.{arith}
 use borrow.Author.Tests.{eq-eqb, ne-eqb}
 use lib.ListN.{length, getD}

@@ -1,15 +1,14 @@
 -- A list that is read line by line: the rows of its cycles are counted, up to its end or its first refusal.
 use Prim.Native.Nat.{ℕ, suc, _+_, _*_, _≤_, _<_}
-use mathlib.Core.Bool.{Bool, true, false}
 use mathlib.Core.List.{List, [], _∷_, _++_, map, map-append}
 use mathlib.Core.Path.{_≡_, refl, sym, _∙_, ap}
 use native.Mathlib.Numerals.{add-one}
 use native.Mathlib.Omega.{arith}
-use Rattle.number.specs.Tests.{pick}
 use Rattle.number.proofs.TestLaws.{clash}
-use Rattle.model.specs.Constraints.{inLast, outLast}
+use Rattle.model.specs.Constraints.{outLast}
 use Rattle.model.specs.Cycles.{Claim}
-use Rattle.model.specs.Trace.{inBounds, lastOf, cyclesOf}
+use Rattle.model.specs.Trace.{lastOf, cyclesOf}
+use Rattle.model.proofs.JoinLaws.{last-le}
 use Rattle.refusal.specs.Refusals.{inLine}
 use Rattle.refusal.specs.declared.Refusal.{Refusal}
 use Rattle.claim.specs.Claims.{claimOf}
@@ -48,15 +47,6 @@ told-refused l (list.one i r) e = clash cc
 told-refused l (list.refused n r) e = (n, cc, cc)
 
 -- ---- what is counted
-
--- the cycle of a claim has at most the rows of one that is out of bounds
-last-le : (c : Claim) → lastOf c ≤ outLast
-unfolding lastOf
-last-le c = by (inBounds c)
-  where
-    by : (b : Bool) → pick b inLast outLast ≤ outLast
-    by true = omega arith
-    by false = omega arith
 
 -- what is known before a line is read: the lines that were read, up to this place, and the rows of their cycles
 pub record Counted (t : List ℕ) (at lines n : ℕ) : Type 0 where

@@ -20,6 +20,15 @@ use Rattle.model.proofs.TableOf.{length-table}
 
 -- ---- how many rows there are
 
+-- the cycle of a claim has at most the rows of one that is out of bounds
+pub last-le : (c : Claim) → lastOf c ≤ outLast
+unfolding lastOf
+last-le c = by (inBounds c)
+  where
+    by : (b : Bool) → pick b inLast outLast ≤ outLast
+    by true = omega arith
+    by false = omega arith
+
 -- a claim's cycle has one row more than its last CT
 pub length-cycle : (stamp : ℕ) (s : State) (c : Claim) → length (cycleOf stamp s c) ≡ suc (lastOf c)
 unfolding cycleOf

@@ -8,21 +8,21 @@ use native.Mathlib.Decide.{decLt}
 use native.Mathlib.Nat.{add-suc, add-zero, suc-add, zero-add}
 use native.Mathlib.Omega.{arith}
 use lib.Dec.{eqb}
-use lib.ListN.{length, length-append}
+use lib.ListN.{length-append}
 use Rattle.model.specs.Columns.{Cells, emptyRow, table}
-use Rattle.model.specs.Cycles.{Claim, Counts, cyclesFrom, count, isOob, emptyRows, counts}
+use Rattle.model.specs.Cycles.{Claim, count, isOob, emptyRows, counts}
 use Rattle.model.specs.Promises.{AllHold, ValidClaim}
-use Rattle.model.specs.State.{Context, State, contextOf, fresh}
+use Rattle.model.specs.State.{Context, State, contextOf}
 use Rattle.model.specs.Steps.{stampMoves, ctMoves}
 use Rattle.model.specs.Tests.{bit}
-use Rattle.model.specs.Trace.{inBounds, lastOf, rowOf, cycleOf}
+use Rattle.model.specs.Trace.{inBounds, lastOf, withCycle, rowOf, cycleOf}
 use Rattle.model.specs.Verdict.{rowBefore, before, brokenAt, judged, meet}
 use Rattle.model.proofs.BeforeLaws.{before-empties}
 use Rattle.model.proofs.CycleMeets.{Leads}
 use Rattle.model.proofs.JoinLaws.{length-cycle}
 use Rattle.model.proofs.ReadBack.{cycles-join, cycles-one, oob-of-row, count-join, empty-cycle}
 use Rattle.model.proofs.StateLaws.{AllSound, all-sound-fresh, all-sound-after}
-use Rattle.model.proofs.TableOf.{getD-table, table-path, table-snoc}
+use Rattle.model.proofs.TableOf.{getD-table, table-path}
 use Rattle.model.proofs.TraceMeets.{Stands, empty-meets, from-meets, cycle-holds, leads-next, before-next}
 use Rattle.model.proofs.VerdictLaws.{judged-meet}
 
@@ -120,10 +120,6 @@ table-join m (suc i) r =
     let rest : table m (λ j. r (suc (i + j))) ≡ table m (λ j. r (suc i + j)) = table-path m (λ j. r (suc (i + j))) (λ j. r (suc i + j)) (λ j l. ap r (sym (suc-add i j))) in
     ap (λ (k : ℕ). table k r) (suc-add i m)
     ∙ ap (λ (xs : List Cells). r 0 ∷ xs) (table-join m i (λ j. r (suc j)) ∙ ap (λ (ys : List Cells). table i (λ j. r (suc j)) ++ ys) rest)
-
--- the counts with a cycle more
-abbrev pub withCycle : Counts → Claim → Counts
-withCycle s c = record { instructions = s .instructions + 1; oob = s .oob + bit (not (inBounds c)); empty = s .empty }
 
 one-oob : (i k : ℕ) (s : State) (c : Claim) → count isOob (record { first = i; row = rowOf (suc k) s c 0 } ∷ []) ≡ bit (not (inBounds c))
 unfolding count

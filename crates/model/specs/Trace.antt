@@ -1,6 +1,6 @@
 -- The trace of a list of claims after a number of empty rows: the rows of each claim at its stamp and its context's state.
 use Prim.Native.Nat.{ℕ, zero, suc, _+_, _-_, _/_, _%_, _^_, max}
-use mathlib.Core.Bool.{Bool, _&&_}
+use mathlib.Core.Bool.{Bool, not, _&&_}
 use mathlib.Core.List.{List, [], _∷_, _++_}
 use lib.Dec.{ltb, leb}
 use lib.ListN.{length, replicate}
@@ -9,7 +9,7 @@ use Rattle.number.specs.Whole.{bound}
 use Rattle.gas.specs.Gas.{wordBytes, Parts, words, cost, split}
 use Rattle.model.specs.Columns.{Cells, emptyRow, table, bytesOf}
 use Rattle.model.specs.Constraints.{inLast, outLast, auxLift}
-use Rattle.model.specs.Cycles.{Claim}
+use Rattle.model.specs.Cycles.{Claim, Counts}
 use Rattle.model.specs.State.{Context, State, fresh, put}
 use Rattle.model.specs.Tests.{pick, bit}
 
@@ -20,6 +20,10 @@ inBounds c = ltb (c .end1) bound && ltb (c .end2) bound
 -- the last CT of the claim's cycle
 unfoldable pub lastOf : Claim → ℕ
 lastOf c = pick (inBounds c) inLast outLast
+
+-- the counts with the cycle of one claim more
+abbrev pub withCycle : Counts → Claim → Counts
+withCycle s c = record { instructions = s .instructions + 1; oob = s .oob + bit (not (inBounds c)); empty = s .empty }
 
 -- the greater end
 abbrev pub top : Claim → ℕ

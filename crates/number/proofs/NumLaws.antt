@@ -131,10 +131,3 @@ be-cut v w n =
 pub be-one : (v : ℕ) → v < 256 → be 1 v ≡ v ∷ []
 unfolding be
 be-one v h = rw mod-eq-of-lt
-
--- three bytes, as the writers make them
-pub be-three : (v : ℕ) → be 3 v ≡ v / 65536 % 256 ∷ v / 256 % 256 ∷ v % 256 ∷ []
-unfolding be
-be-three v =
-    let e : v / 256 / 256 ≡ v / 65536 = omega arith in
-    rw e

@@ -3,7 +3,6 @@ use Prim.Native.Nat.{ℕ, suc, _+_, _/_, _%_, _^_}
 use mathlib.Core.List.{List, [], _∷_, _++_}
 use mathlib.Core.Path.{_≡_, _∙_, ap, sym}
 use native.Mathlib.Nat.{add-zero, add-suc, suc-add}
-use native.Mathlib.Numerals.{towards-suc}
 use lib.ListN.{length, set}
 use lib.Seq.{sets}
 use Rattle.number.specs.Num.{be}
@@ -21,7 +20,3 @@ sets-then l i w v rest e = rw e (rw (length-be w v) at (sets-append l i (be w v)
 -- a number of v + w bytes, in two parts
 pub sets-cut : {m k : List ℕ} (l : List ℕ) (i v w n : ℕ) → m ≡ sets l i (be v (n / 256 ^ w)) → k ≡ sets m (i + v) (be w (n % 256 ^ w)) → k ≡ sets l i (be (v + w) n)
 sets-cut l i v w n e f = f ∙ sets-then l i v (n / 256 ^ w) (be w (n % 256 ^ w)) e ∙ ap (sets l i) (sym (be-cut v w n))
-
--- three bytes, one by one
-pub three-stores : (l : List ℕ) (i a b c : ℕ) → set (set (set l i a) (i + 1) b) (i + 2) c ≡ sets l i (a ∷ b ∷ c ∷ [])
-three-stores l i a b c = simp towards-suc

@@ -11,7 +11,6 @@ use Rattle.cell.proofs.read.u48_at.Reads as u48-at
 use Rattle.cell.proofs.read.u64_at.Reads as u64-at
 use Rattle.cell.proofs.read.wide_at.Reads as wide-at
 use Rattle.cell.proofs.join.join_1_1.Reads as join-1-1
-use Rattle.cell.proofs.join.join_2_2.Reads as join-2-2
 use Rattle.cell.proofs.join.join_4_4.Reads as join-4-4
 use Rattle.cell.proofs.join.join_1_3.Reads as join-1-3
 use Rattle.cell.proofs.join.join_3_3.Reads as join-3-3
@@ -51,9 +50,6 @@ one-wide-at = equation (λ a b. refl)
 -- what stands side by side
 pub one-join-1-1 : NoSecond join-1-1.Post given answer
 one-join-1-1 = equation (λ a b. refl)
-
-pub one-join-2-2 : NoSecond join-2-2.Post given answer
-one-join-2-2 = equation (λ a b. refl)
 
 pub one-join-4-4 : NoSecond join-4-4.Post given answer
 one-join-4-4 = equation (λ a b. refl)

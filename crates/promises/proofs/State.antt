@@ -5,7 +5,6 @@ use Rattle.state.specs.declared.Context.{Context}
 use Rattle.state.specs.declared.State.{State}
 use Rattle.state.specs.Plain.{toldLooked}
 use Rattle.promises.proofs.NoSecond.{NoSecond, no-second, equation, given, ref, answer}
-use Rattle.state.proofs.context_of.Reads as context-of
 use Rattle.state.proofs.same_context.Reads as same-context
 use Rattle.state.proofs.is_lower.Reads as is-lower
 use Rattle.state.proofs.start_state.Reads as start-state
@@ -25,9 +24,6 @@ abbrev pub codeState : model.State → State
 codeState s = record { mem = record { 0 = s .mem }; cost = record { 0 = s .cost } }
 
 -- contexts and states
-pub one-context-of : NoSecond context-of.Post given answer
-one-context-of = no-second _ (λ κ a v e p. ap codeContext p) (λ a b. refl)
-
 pub one-same-context : NoSecond same-context.Post given answer
 one-same-context = equation (λ a b. refl)
 

@@ -1,17 +1,11 @@
 -- No second answer meets the contracts of `words`.
 use mathlib.Core.Path.{refl}
-use Rattle.number.specs.Whole.{val}
-use Rattle.promises.proofs.NoSecond.{NoSecond, no-second, equation, given, answer, by}
+use Rattle.promises.proofs.NoSecond.{NoSecond, no-second, equation, given, answer}
 use Rattle.words.proofs.wide.Reads as wide
-use Rattle.words.proofs.byte.Reads as byte
 use Rattle.words.proofs.bit.Reads as bit
 use Rattle.words.proofs.implies.Reads as implies
 use Rattle.words.proofs.pick.Reads as pick
-use Rattle.words.proofs.pick_test.Reads as pick-test
-use Rattle.words.proofs.pick_wide.Reads as pick-wide
 use Rattle.words.proofs.last_ct.Reads as last-ct
-use Rattle.words.proofs.is_difference.Reads as is-difference
-use Rattle.words.proofs.is_sum.Reads as is-sum
 use Rattle.words.proofs.is_number.Reads as is-number
 use Rattle.words.proofs.is_zero.Reads as is-zero
 use Rattle.words.proofs.sums_up.Reads as sums-up
@@ -31,9 +25,6 @@ use Rattle.words.proofs.steps.ct_follows.Reads as ct-follows
 pub one-wide : NoSecond wide.Post given answer
 one-wide = no-second _ (λ κ a v e p. p .0) (λ a b. refl)
 
-pub one-byte : NoSecond byte.Post given answer
-one-byte = no-second _ (λ κ a v e p. p .0) (λ a b. refl)
-
 pub one-bit : NoSecond bit.Post given answer
 one-bit = no-second _ (λ κ a v e p. p .0) (λ a b. refl)
 
@@ -44,20 +35,8 @@ one-implies = equation (λ a b. refl)
 pub one-pick : NoSecond pick.Post given answer
 one-pick = equation (λ a b. refl)
 
-pub one-pick-test : NoSecond pick-test.Post given answer
-one-pick-test = equation (λ a b. refl)
-
-pub one-pick-wide : NoSecond pick-wide.Post given (by val)
-one-pick-wide = equation (λ a b. refl)
-
 pub one-last-ct : NoSecond last-ct.Post given answer
 one-last-ct = equation (λ a b. refl)
-
-pub one-is-difference : NoSecond is-difference.Post given answer
-one-is-difference = equation (λ a b. refl)
-
-pub one-is-sum : NoSecond is-sum.Post given answer
-one-is-sum = equation (λ a b. refl)
 
 pub one-is-number : NoSecond is-number.Post given answer
 one-is-number = equation (λ a b. refl)

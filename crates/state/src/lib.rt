@@ -1,12 +1,10 @@
 // A context, its state, and the look-up of a context's state before a row of a trace. Only crates of this repository call these functions.
 ghost use mathlib.Core.Path.{_≡_};
-ghost use Rattle.model.specs.State.{contextOf, sameContext, start};
-ghost use Rattle.row.specs.Plain.{plain};
+ghost use Rattle.model.specs.State.{sameContext, start};
 ghost use Rattle.state.specs.Order.{lowerContext};
 ghost use Rattle.state.specs.Plain.{context, state};
 use gas::Bytes;
 use gas::Gas;
-use row::cells::Row;
 
 pub mod look;
 
@@ -19,13 +17,6 @@ pub struct Context {
 pub struct State {
     pub mem: Bytes,
     pub cost: Gas,
-}
-
-// The context of a row.
-pub fn context_of(x: Row) -> Context
-    ensures { λ r. ⌜ context r ≡ contextOf (plain x) ⌝ }
-{
-    Context { cn: x.head.cn }
 }
 
 // Whether a and b are the same context.

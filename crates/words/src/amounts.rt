@@ -1,4 +1,4 @@
-// What constraints 16 to 22 and 25 ask of a row's cells, as numbers: the same whether the cells come from a row or straight from its bytes.
+// What constraints 16 to 22 and 25 ask of a row's cells, as numbers.
 ghost use mathlib.Core.Path.{_≡_};
 ghost use mathlib.Core.Bool.{_&&_};
 ghost use Prim.Native.Nat.{_+_, _*_, _^_};

@@ -27,7 +27,7 @@ pub fn wide(x: u32) -> u64
 }
 
 // A byte, with room for sums.
-pub fn byte(x: u8) -> u64
+pub(crate) fn byte(x: u8) -> u64
     ensures { λ r. ⌜ (r ≡ x) × (r < 256) ⌝ }
 {
     x as u64
@@ -55,13 +55,13 @@ pub fn pick(t: bool, a: u64, b: u64) -> u64
     if t { a } else { b }
 }
 
-pub fn pick_test(t: bool, a: bool, b: bool) -> bool
+pub(crate) fn pick_test(t: bool, a: bool, b: bool) -> bool
     ensures { λ r. ⌜ r ≡ tests.pick t a b ⌝ }
 {
     if t { a } else { b }
 }
 
-pub fn pick_wide(t: bool, a: Wide, b: Wide) -> Wide
+pub(crate) fn pick_wide(t: bool, a: Wide, b: Wide) -> Wide
     ensures { λ r. ⌜ val r ≡ tests.pick t (val a) (val b) ⌝ }
 {
     if t { a } else { b }
@@ -75,7 +75,7 @@ pub fn last_ct(ooob: u8) -> u8
 }
 
 // Whether v is a - b. A difference below 0 equals no cell: the test is made by a sum.
-pub fn is_difference(v: u64, a: u64, b: u64) -> bool
+pub(crate) fn is_difference(v: u64, a: u64, b: u64) -> bool
     requires { ⌜ v + b < 2 ^ 64 ⌝ }
     ensures { λ r. ⌜ r ≡ tests.isDifference v a b ⌝ }
 {
@@ -83,7 +83,7 @@ pub fn is_difference(v: u64, a: u64, b: u64) -> bool
 }
 
 // Whether a is n + b. A part of the sum carries 1 just where it is below what was added to it.
-pub fn is_sum(a: Wide, n: u64, b: Wide) -> bool
+pub(crate) fn is_sum(a: Wide, n: u64, b: Wide) -> bool
     ensures { λ r. ⌜ r ≡ eqb (n + val b) (val a) ⌝ }
 {
     let from_lo = bit(a.lo < n);

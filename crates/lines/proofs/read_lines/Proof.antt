@@ -2,7 +2,7 @@
 -- are written, up to a row, where they are to be; one turn is counted-next for the rows and filling-next for the bytes. Every line ends further on, so what is
 -- left of the text falls. The text that is to be written is a list: none of its lines is refused (passing-refused), and at its end all cycles are
 -- written (passing-end).
-use Prim.Native.Nat.{suc, _+_, _-_}
+use Prim.Native.Nat.{_-_}
 use mathlib.Core.Bool.{true, false, false≢true}
 use mathlib.Core.Logic.{⊎-elim}
 use mathlib.Core.Path.{_≡_, sym, _∙_}
@@ -11,7 +11,7 @@ use borrow.Author.Needs.{needs}
 use lib.ListN.{length}
 use Rattle.recent.specs.Notes.{plainSpan}
 use Rattle.lines.proofs.CountLaws.{More, counted-end, counted-refused, counted-next}
-use Rattle.lines.proofs.WriteLaws.{Passing, passing-first, length-kept, passing-end, passing-refused, passing-next, Filling, Turn, turn-writable, filling-next}
+use Rattle.lines.proofs.WriteLaws.{Passing, passing-first, length-kept, passing-end, passing-refused, passing-next, Turn, turn-writable, filling-next}
 use Rattle.lines.proofs.read_lines.Statement.{statement}
 use Rattle.lines.proofs.read_lines.Tie as tie
 

@@ -16,7 +16,8 @@ use Rattle.recent.specs.Notes.{slotOf, plainSpan}
 use Rattle.recent.proofs.NoteLaws.{noted-in}
 use Rattle.checker.specs.Steps.{cycleNext}
 use Rattle.checker.proofs.RowLaws.{meets-first, told-accepted}
-use Rattle.checker.proofs.CycleLaws.{Walked, walked-first, walked-stamp, walked-few, recalls-sound, next-fits, walked-next, last-le}
+use Rattle.model.proofs.JoinLaws.{last-le}
+use Rattle.checker.proofs.CycleLaws.{Walked, walked-first, walked-stamp, walked-few, recalls-sound, next-fits, walked-next}
 use Rattle.checker.proofs.cycles.verdict_on.Statement.{statement}
 use Rattle.checker.proofs.cycles.verdict_on.Tie as tie
 
