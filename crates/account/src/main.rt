@@ -1,5 +1,7 @@
 // The program `account`: reads a list from standard input and prints what each of its instructions pays for memory, a line for each and one for all. What is
 // printed for the bytes read is promised by `put_report`; that it reads and writes them is tested.
+#![tactic(auto)]
+
 ghost use Rattle.std.specs.Prelude.{◌≡◌, ◌+◌, ◌*◌, ◌≤◌, length};
 ghost use Rattle.model.specs.Columns.{row_bytes, row_at, table};
 ghost use Rattle.row.specs.Plain.{plain};
@@ -36,7 +38,7 @@ const TOTAL_BYTES: usize = 85;
 const REPORT_BYTES: usize = ROOM_ROWS * LINE_BYTES + TOTAL_BYTES;
 
 // The lines put: the place after them, and what was counted.
-#[derive(Drop)]
+#[derive(Clone, Copy)]
 struct Lines {
     end: usize,
     counts: Counts,

@@ -1,5 +1,7 @@
 // The cycle of an out-of-bounds claim: 17 rows, which carry the state on and spell how far an end is beyond the bound, written to a lent buffer or compared
 // with a trace. Only crates of this repository call these functions.
+#![tactic(auto)]
+
 ghost use Rattle.std.specs.Prelude.{false, ◌≡◌, suc, ◌+◌, ◌*◌, ◌≤◌, length};
 ghost use Rattle.std.proofs.lemmas.List.Edits.{sets};
 ghost use Rattle.number.specs.Sums.{prefix_at, digit_at};

@@ -1,4 +1,6 @@
 // The checker: reads a trace and says accepted, with its counts, or names the first broken constraint.
+#![tactic(auto)]
+
 ghost use Rattle.std.specs.Prelude.{◌≡◌};
 ghost use Rattle.model.specs.Verdict.{verdict};
 ghost use Rattle.checker.specs.Answer.{told};
@@ -11,7 +13,7 @@ mod cycles;
 mod judge;
 
 // What the checker answers: document 01's numbers for each case are `numbers` of specs/Answer.antt.
-#[derive(Drop)]
+#[derive(Clone, Copy)]
 pub enum Verdict {
     // Every row meets every constraint.
     Accepted(Counts),

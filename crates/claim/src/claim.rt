@@ -16,7 +16,7 @@ use state::Context;
 use state::look::context_at;
 
 // A context and two ends.
-#[derive(Drop)]
+#[derive(Clone, Copy)]
 pub struct Claim {
     pub context: Context,
     pub end1: Wide,

@@ -11,7 +11,7 @@ use refusal::Refusal;
 use state::Context;
 
 // The fields of a line, in their order.
-#[derive(Drop)]
+#[derive(Clone, Copy)]
 pub struct Fields {
     pub cn: u32,
     pub op: u8,
@@ -22,14 +22,14 @@ pub struct Fields {
 }
 
 // A range of offset and length, each in two halves of 64 bits.
-#[derive(Drop)]
+#[derive(Clone, Copy)]
 pub struct Range {
     pub at: Long,
     pub len: Long,
 }
 
 // What an instruction touches.
-#[derive(Drop)]
+#[derive(Clone, Copy)]
 pub enum Touched {
     Nothing,
     One(Range),
@@ -37,7 +37,7 @@ pub enum Touched {
 }
 
 // An instruction: its context, its opcode and what it touches.
-#[derive(Drop)]
+#[derive(Clone, Copy)]
 pub struct Instruction {
     pub context: Context,
     pub op: u8,
@@ -45,14 +45,14 @@ pub struct Instruction {
 }
 
 // The instruction of a line, or why the line is refused.
-#[derive(Drop)]
+#[derive(Clone, Copy)]
 pub enum Decoded {
     Made(Instruction),
     Refused(Refusal),
 }
 
 // How many of at1, len1, at2 and len2 are used, from the first on, and what is touched.
-#[derive(Drop)]
+#[derive(Clone, Copy)]
 struct Use {
     fields: u8,
     touched: Touched,

@@ -1,6 +1,8 @@
 // A row by value beside the bytes of a trace: whether every cell is the same. Cells that stand side by side are compared as one number. Only crates of this
 // repository call these functions: they ask that the row is there, and that cells of three bytes fit them. Each of the two parts of a row is small enough to
 // be inlined where it is called; one function for both would not be, and the row would go through memory.
+#![tactic(auto)]
+
 ghost use Rattle.std.specs.Prelude.{◌&&◌, ◌≡◌, ◌+◌, ◌*◌, ◌≤◌, ◌<◌, eqb, length, take, drop};
 ghost use Rattle.number.specs.Num.{num};
 ghost use Rattle.number.specs.Whole.{val};

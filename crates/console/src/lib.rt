@@ -1,12 +1,14 @@
 // Standard input read whole, and standard output written. What goes wrong is told on standard error, under the name of the program. Only programs of this
 // repository call this.
+#![tactic(auto)]
+
 ghost use Rattle.std.specs.Prelude.{length};
 ghost use Rattle.console.specs.Input.{within};
 
 use libc::{STDIN_FILENO, STDOUT_FILENO};
 
 // What reading comes to: how many bytes of the input stand at the start of the buffer, or that a read failed.
-#[derive(Drop)]
+#[derive(Clone, Copy)]
 pub enum Input {
     Bytes(usize),
     Failed,

@@ -1,5 +1,7 @@
 // The counts of a trace, row by row: of its instructions, of those out of bounds and of its empty rows. The checker and `account` count by these
 // functions; an operator calls none of them.
+#![tactic(auto)]
+
 ghost use Rattle.std.specs.Prelude.{◌≡◌, not, ◌&&◌, ◌+◌, ◌<◌, eqb};
 ghost use Rattle.model.specs.Cycles.{starts};
 ghost use Rattle.model.specs.Tests as tests;
@@ -11,7 +13,7 @@ use row::cells::Row;
 use words::bit;
 
 // How many instructions a trace has, how many of them are out of bounds, and how many empty rows.
-#[derive(Drop)]
+#[derive(Clone, Copy)]
 pub struct Counts {
     pub instructions: u64,
     pub oob: u64,

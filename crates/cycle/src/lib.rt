@@ -1,5 +1,7 @@
 // One cycle, written to a lent buffer or compared with a trace: the rows of a claim at a stamp and at the state of its context. Only crates of this repository
 // call these functions.
+#![tactic(auto)]
+
 ghost use Rattle.std.specs.Prelude.{◌≡◌, suc, ◌+◌, ◌*◌, ◌≤◌, length};
 ghost use Rattle.std.proofs.lemmas.List.Edits.{sets};
 ghost use Rattle.model.specs.Columns.{row_bytes, row_at, bytes_of};

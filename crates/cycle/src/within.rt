@@ -23,7 +23,7 @@ use state::State;
 use writer::put_row;
 
 // What the rows of a cycle are made from.
-#[derive(Drop)]
+#[derive(Clone, Copy)]
 struct Made {
     stamp: u32,
     before: State,

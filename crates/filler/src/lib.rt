@@ -1,4 +1,6 @@
 // The filler: from the text of a list to its trace in a lent buffer.
+#![tactic(auto)]
+
 ghost use Rattle.std.specs.Prelude.{◌≡◌, ◌-◌, ◌≤◌, ◌<◌, length};
 ghost use Rattle.model.specs.Trace.{trace};
 ghost use Rattle.model.specs.Verdict.{max_rows};
@@ -14,7 +16,7 @@ use refusal::Refusal;
 const MAX_LIST: usize = 4194304;
 
 // What the filler answers: document 01's numbers for each case are `numbers` of specs/Answer.antt.
-#[derive(Drop)]
+#[derive(Clone, Copy)]
 pub enum Filled {
     // How many rows were written.
     Rows(u64),

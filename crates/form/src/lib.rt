@@ -1,6 +1,8 @@
 // Texts of a given form, read from a position on: names, and numbers in lower-case hex. Every reader answers on every text and position: the value and the
 // place after it, or the place of the first character that cannot go on. Digits are told by a table that is lent (`digit_table`). Only crates of this
 // repository call these readers.
+#![tactic(auto)]
+
 ghost use Rattle.std.specs.Prelude.{◌&&◌, ◌≡◌, ◌+◌, ◌*◌, ◌%◌, ◌^◌, ◌≤◌, ◌<◌, eqb, leb, length};
 ghost use Rattle.cell.specs.Low.{le, low_num};
 ghost use Rattle.form.specs.Plain.{most_digits, Bounded, name_text, matched, half_run, digit_run, number};
@@ -11,7 +13,7 @@ use cell::read::low64_at;
 use long::{Long, push_digit, small};
 
 // A name: its characters as one number, the first counting least; how many they are, at most 7; and 256 to that power.
-#[derive(Drop)]
+#[derive(Clone, Copy)]
 pub struct Name {
     pub number: u64,
     pub bound: u64,
@@ -19,14 +21,14 @@ pub struct Name {
 }
 
 // Where given characters end, or the place of the first that differs.
-#[derive(Drop)]
+#[derive(Clone, Copy)]
 pub enum Matched {
     To(usize),
     Stop(usize),
 }
 
 // A number and the place after it, or the place of the first character that cannot go on.
-#[derive(Drop)]
+#[derive(Clone, Copy)]
 pub enum Number {
     Got(Long, usize),
     Stop(usize),
@@ -128,14 +130,14 @@ fn last_place(t: &[u8], p: usize, most: usize) -> usize
 }
 
 // A run of digits that spell one half: their number, and the place after them.
-#[derive(Drop)]
+#[derive(Clone, Copy)]
 struct Half {
     value: u64,
     next: usize,
 }
 
 // A run of digits: the number that they spell, and the place after them.
-#[derive(Drop)]
+#[derive(Clone, Copy)]
 struct Digits {
     value: Long,
     next: usize,

@@ -1,5 +1,7 @@
 // Bytes, EVM words and gas, each a kind of its own: nothing but the functions here turns one into another.
 // Every call answers on every input; the crates above use them, an operator calls none of them.
+#![tactic(auto)]
+
 ghost use Rattle.std.specs.Prelude.{◌≡◌, ◌*◌, ◌^◌, ◌<◌};
 ghost use Rattle.gas.specs.Gas.{words, cost, split};
 ghost use Rattle.gas.specs.Plain.{parts};
@@ -12,19 +14,19 @@ pub const WORD_GAS: u64 = 3;
 pub const SQUARE_DIVISOR: u64 = 512;
 
 // A count of bytes of memory.
-#[derive(Drop)]
+#[derive(Clone, Copy)]
 pub struct Bytes(pub u32);
 
 // A count of EVM words, of 32 bytes each.
-#[derive(Drop)]
+#[derive(Clone, Copy)]
 pub struct Words(pub u32);
 
 // An amount of gas.
-#[derive(Drop)]
+#[derive(Clone, Copy)]
 pub struct Gas(pub u64);
 
 // A square in three parts: 512 times q2, 256 times the bit e, and the last byte.
-#[derive(Drop)]
+#[derive(Clone, Copy)]
 pub struct Split {
     pub q2: u64,
     pub e: u8,

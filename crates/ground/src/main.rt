@@ -1,5 +1,7 @@
 // Runs `number`, `cell` and `gas` on the vectors of data/, whose answers were worked out apart from them. Prints each cost, and for
 // each file how many vectors it has and how many of them are wrong: none, or in a file of wrong answers all.
+#![tactic(auto)]
+
 ghost use Rattle.std.specs.Prelude.{◌≡◌, true, ◌+◌, ◌*◌, ◌≤◌, ◌<◌, length};
 ghost use Rattle.std.proofs.lemmas.List.Edits.{sets};
 ghost use Rattle.number.specs.Cells.{encode, decode};
@@ -15,7 +17,7 @@ use number::wide::{in_bounds, is_next, less, minus, minus_bound, push, same, sma
 const VECTOR_BYTES: usize = 64;
 
 // What the vectors of a file are about.
-#[derive(Drop)]
+#[derive(Clone, Copy)]
 pub enum Kind {
     Costs,
     Splits,
@@ -26,7 +28,7 @@ pub enum Kind {
 }
 
 // How many vectors a file has, and how many of them are wrong.
-#[derive(Drop)]
+#[derive(Clone, Copy)]
 pub struct Tally {
     pub vectors: usize,
     pub wrong: usize,

@@ -1,5 +1,7 @@
 // The numbers of an in-bounds cycle: how its ends compare, and what the greater of them makes of the state of its context. Only crates of this
 // repository call these functions.
+#![tactic(auto)]
+
 ghost use Rattle.std.specs.Prelude.{true, ◌≡◌, ◌<◌};
 ghost use Rattle.number.specs.Whole.{bound};
 ghost use Rattle.model.specs.State.{Sound};
@@ -14,7 +16,7 @@ use model::AUX_LIFT;
 use state::State;
 
 // The ends, whether the first is at least the second (1, else 0), the greater one, and how far they are apart.
-#[derive(Drop)]
+#[derive(Clone, Copy)]
 pub struct Ends {
     pub end1: Bytes,
     pub end2: Bytes,
@@ -24,7 +26,7 @@ pub struct Ends {
 }
 
 // What the greater end makes of the state. From `gas` on all is 0 where that end is not above the bytes reached before.
-#[derive(Drop)]
+#[derive(Clone, Copy)]
 pub struct Growth {
     // Whether it is above them (1, else 0), and how far the two are apart.
     pub flag: u8,

@@ -1,4 +1,6 @@
 // The last state of a context: from the last cycle of a trace back.
+#![tactic(auto)]
+
 ghost use Rattle.std.specs.Prelude.{◌≡◌, length};
 ghost use Rattle.model.specs.Columns.{rows_of};
 ghost use Rattle.model.specs.Cycles.{last_state};
@@ -14,7 +16,7 @@ use state::look::{Found, Looked, search_back, state_found};
 use trace::admit::{Admitted, admit};
 
 // The last state of a context: document 01's numbers for each case are `lastNumbers` of specs/Last.antt.
-#[derive(Drop)]
+#[derive(Clone, Copy)]
 pub enum Last {
     // The state, and how many cycles were looked at for it.
     Is(Looked),

@@ -1,5 +1,7 @@
 // A list read line by line, and its trace written to a lent buffer: the empty rows, and the cycles. One function reads the lines, whether their cycles are
 // to be counted or to be written. Only crates of this repository call these functions.
+#![tactic(auto)]
+
 ghost use Rattle.std.specs.Prelude.{true, ◌≡◌, suc, ◌+◌, ◌*◌, ◌≤◌, length, replicate, set};
 ghost use Rattle.std.proofs.lemmas.List.Edits.{sets};
 ghost use Rattle.model.specs.Columns.{empty_row, row_bytes, row_at, bytes_of};
@@ -20,7 +22,7 @@ use recent::{SLOTS, Span, no_span, note, recall, widened};
 use refusal::Refusal;
 
 // What a list comes to. Document 01's numbers of a refusal are those of `refusal`.
-#[derive(Drop)]
+#[derive(Clone, Copy)]
 pub enum Measured {
     // How many rows its cycles have.
     Rows(usize),

@@ -1,4 +1,6 @@
 // The list reader: from the text of a list to its instructions, line by line.
+#![tactic(auto)]
+
 ghost use Rattle.std.specs.Prelude.{◌≡◌};
 ghost use Rattle.form.specs.Table.{digit_table};
 ghost use Rattle.list.specs.List.{next_line};
@@ -11,7 +13,7 @@ use refusal::Refusal;
 pub mod line;
 
 // What stands in a list at a place. Document 01's numbers are `nextNumbers` of specs/Told.antt.
-#[derive(Drop)]
+#[derive(Clone, Copy)]
 pub enum Next {
     // Nothing: the list ends.
     End,

@@ -49,28 +49,28 @@ const BOUND_5: u64 = 0x10000000000;
 const BOUND_6: u64 = 0x1000000000000;
 
 // cn and op.
-#[derive(Drop)]
+#[derive(Clone, Copy)]
 enum Head {
     Got { cn: u32, op: u8, next: usize },
     Stop(usize),
 }
 
 // An offset and a length.
-#[derive(Drop)]
+#[derive(Clone, Copy)]
 enum OneRange {
     Got(Range, usize),
     Stop(usize),
 }
 
 // Two of them.
-#[derive(Drop)]
+#[derive(Clone, Copy)]
 enum Ranges {
     Got(Range, Range, usize),
     Stop(usize),
 }
 
 // The fields of a line.
-#[derive(Drop)]
+#[derive(Clone, Copy)]
 pub enum Line {
     Got(Fields, usize),
     Stop(usize),

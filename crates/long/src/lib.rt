@@ -1,4 +1,6 @@
 // Numbers below 2^128, the offsets and lengths of a list, as two halves of 64 bits. Only crates of this repository call these functions.
+#![tactic(auto)]
+
 ghost use Rattle.std.specs.Prelude.{◌≡◌, ◌+◌, ◌*◌, ◌^◌, ◌<◌, eqb};
 ghost use Rattle.number.specs.Whole.{wide};
 ghost use Rattle.long.specs.Halves.{whole, long};
@@ -6,7 +8,7 @@ ghost use Rattle.long.specs.Halves.{whole, long};
 use number::wide::Wide;
 
 // The first 64 bits and the last 64.
-#[derive(Drop)]
+#[derive(Clone, Copy)]
 pub struct Long {
     pub hi: u64,
     pub lo: u64,
@@ -41,7 +43,7 @@ pub fn push_digit(x: Long, d: u8) -> Long
 }
 
 // One place of a sum: what it holds, and 1 if the sum goes past it.
-#[derive(Drop)]
+#[derive(Clone, Copy)]
 struct Place {
     digit: u64,
     carry: u64,

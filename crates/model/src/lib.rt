@@ -1,4 +1,6 @@
 // The model of the memory stage: document 01 as definitions (specs/) and the laws about them (proofs/). The crates with code cite both.
+#![tactic(auto)]
+
 ghost use Rattle.std.specs.Prelude.{◌≡◌};
 ghost use Rattle.model.specs.Columns.{row_bytes};
 

@@ -1,5 +1,7 @@
 // The stage's calls for programs in C and Rust, by `rt staticlib mxp`: numbers and byte slices alone, an answer for every input.
 // A slice is a pointer and a length. The numbers of an answer are written to an array that the caller lends, by the layouts of `out`.
+#![tactic(auto)]
+
 ghost use Rattle.std.specs.Prelude.{◌≡◌, length};
 ghost use Rattle.filler.specs.Fill.{outcome, buffer_after};
 ghost use Rattle.mxp.specs.Out.{check_out, fill_out, rows_out, claim_out, last_out, open_out, step_out};

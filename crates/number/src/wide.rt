@@ -3,7 +3,7 @@ ghost use Rattle.std.specs.Prelude.{◌≡◌, ◌+◌, ◌*◌, ◌-◌, ◌^�
 ghost use Rattle.number.specs.Whole.{val, bound};
 
 // The first byte, the next 8 bytes and the last 8.
-#[derive(Drop)]
+#[derive(Clone, Copy)]
 pub struct Wide {
     pub top: u8,
     pub hi: u64,

@@ -1,4 +1,6 @@
 // The opcodes that a list may have, and what they touch. Only crates of this repository call `category_of`.
+#![tactic(auto)]
+
 ghost use Rattle.std.specs.Prelude.{◌≡◌};
 ghost use Rattle.opcode.specs.Opcodes.{category_of};
 
@@ -16,7 +18,7 @@ pub const RANGE: u8 = 4;
 const TWO_RANGES: u8 = 5;
 
 // An opcode and its category.
-#[derive(Drop)]
+#[derive(Clone, Copy)]
 struct Entry {
     op: u8,
     category: u8,

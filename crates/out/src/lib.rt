@@ -1,5 +1,7 @@
 // The layout of each answer in the array of numbers that a caller of the exported calls lends. Whatever stood in the array is overwritten; what
 // document 01 leaves open is 0.
+#![tactic(auto)]
+
 ghost use Rattle.std.specs.Prelude.{◌≡◌, ◌+◌, ◌^◌, ◌≤◌, ◌<◌};
 ghost use Rattle.checker.specs.Answer as checker;
 ghost use Rattle.filler.specs.Answer as filler;

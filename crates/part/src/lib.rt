@@ -1,4 +1,6 @@
 // Where cycles stand in the bytes of a trace, and a part of it by its rows. Nothing is checked here.
+#![tactic(auto)]
+
 ghost use Rattle.std.specs.Prelude.{◌≡◌, ◌&&◌, ◌+◌, ◌*◌, ◌≤◌, leb, length};
 ghost use Rattle.model.specs.Columns.{row_bytes, rows_of};
 ghost use Rattle.model.specs.Cycles.{part, next_row, step};

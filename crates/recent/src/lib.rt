@@ -1,6 +1,8 @@
 // What is known of the rows before a row of a trace: the latest rows of contexts in a small table, and the lowest and the highest context seen. The state
 // of a context before the row is found by them at once, and the look-up back cycle by cycle is left for contexts that share an entry. Only crates of this
 // repository call these functions.
+#![tactic(auto)]
+
 ghost use Rattle.std.specs.Prelude.{◌≡◌, ◌+◌, ◌*◌, ◌≤◌, ◌<◌, length, set};
 ghost use Rattle.model.specs.Columns.{row_bytes, row_at};
 ghost use Rattle.model.specs.Verdict.{max_rows};
@@ -17,7 +19,7 @@ use state::{Context, State, is_lower, start_state};
 pub const SLOTS: usize = 1024;
 
 // The contexts from a lowest to a highest.
-#[derive(Drop)]
+#[derive(Clone, Copy)]
 pub struct Span {
     lowest: Context,
     highest: Context,

@@ -1,4 +1,6 @@
 // Why a call refuses its input: document 01's number, and the line of the list where it has one. One function for each refusal.
+#![tactic(auto)]
+
 ghost use Rattle.std.specs.Prelude.{◌≡◌};
 ghost use Rattle.model.specs.Verdict.{bad_length, too_many_rows};
 ghost use Rattle.refusal.specs.Refusals.{lineless, in_line, no_refusal};
@@ -6,7 +8,7 @@ ghost use Rattle.refusal.specs.Refusals.{list_too_long, no_empty_row, not_of_for
 ghost use Rattle.refusal.specs.Refusals.{not_accepted, no_instruction, context_zero, limit_too_low};
 
 // Its number, and the line from 1; line 0 where it is of no line.
-#[derive(Drop)]
+#[derive(Clone, Copy)]
 pub struct Refusal {
     pub number: u64,
     pub line: u64,

@@ -6,7 +6,7 @@ ghost use Rattle.row.specs.Plain.{plain};
 use number::wide::{Wide, small};
 
 // From STAMP to ACC2.
-#[derive(Drop)]
+#[derive(Clone, Copy)]
 pub struct Head {
     pub stamp: u32,
     pub cn: u32,
@@ -21,7 +21,7 @@ pub struct Head {
 }
 
 // From MEM to FLAG.
-#[derive(Drop)]
+#[derive(Clone, Copy)]
 pub struct Body {
     pub mem: u32,
     pub memn: u32,
@@ -36,7 +36,7 @@ pub struct Body {
 }
 
 // From EBYTE to AUX2.
-#[derive(Drop)]
+#[derive(Clone, Copy)]
 pub struct Tail {
     pub ebyte: u8,
     pub eacc: u32,
@@ -51,7 +51,7 @@ pub struct Tail {
 }
 
 // The thirty cells.
-#[derive(Drop)]
+#[derive(Clone, Copy)]
 pub struct Row {
     pub head: Head,
     pub body: Body,

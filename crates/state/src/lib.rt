@@ -1,4 +1,6 @@
 // A context, its state, and the look-up of a context's state before a row of a trace. Only crates of this repository call these functions.
+#![tactic(auto)]
+
 ghost use Rattle.std.specs.Prelude.{◌≡◌};
 ghost use Rattle.model.specs.State.{same_context, start};
 ghost use Rattle.state.specs.Order.{lower_context};
@@ -9,13 +11,13 @@ use gas::{Bytes, Gas};
 pub mod look;
 
 // A context, by its number.
-#[derive(Drop)]
+#[derive(Clone, Copy)]
 pub struct Context {
     pub cn: u32,
 }
 
 // The bytes that a context has reached, and the gas paid for them.
-#[derive(Drop)]
+#[derive(Clone, Copy)]
 pub struct State {
     pub mem: Bytes,
     pub cost: Gas,

@@ -13,21 +13,21 @@ use model::{IN_ROWS, OUT_ROWS};
 use row::read::{cn_at, costn_at, memn_at, ooob_at};
 
 // What a search finds: a row by its number, or nothing.
-#[derive(Drop)]
+#[derive(Clone, Copy)]
 pub enum Found {
     At(usize),
     Nothing,
 }
 
 // What a search found, and how many cycles it looked at.
-#[derive(Drop)]
+#[derive(Clone, Copy)]
 pub struct Search {
     pub found: Found,
     pub count: usize,
 }
 
 // A state, and how many cycles were looked at for it.
-#[derive(Drop)]
+#[derive(Clone, Copy)]
 pub struct Looked {
     pub state: State,
     pub cycles: usize,

@@ -1,6 +1,8 @@
 // Lines of text, put together in a lent buffer: bytes, numbers in decimal, and names with their numbers.
 // Each call asks that there is room, leaves the rest of the buffer as it was and answers the place after what it put.
 // Only crates of this repository make these calls.
+#![tactic(auto)]
+
 ghost use Rattle.std.specs.Prelude.{◌+◌, ◌≤◌, length};
 ghost use Rattle.text.specs.Decimal.{decimal, max_digits};
 ghost use Rattle.text.specs.Line.{Put, Front, field, refused_line, max_refused_line};

@@ -8,7 +8,7 @@ use count::Counts;
 use refusal::Refusal;
 
 // An accepted trace with its counts, or why there is none.
-#[derive(Drop)]
+#[derive(Clone, Copy)]
 pub enum Admitted {
     With(Counts),
     Refused(Refusal),

@@ -10,7 +10,7 @@ use refusal::Refusal;
 use state::look::cycle_rows_at;
 
 // Where an instruction stands: document 01's numbers for each case are `partNumbers` of specs/Told.antt.
-#[derive(Drop)]
+#[derive(Clone, Copy)]
 pub enum Place {
     // Its first row, and how many rows it has.
     At { first: usize, rows: usize },
@@ -18,7 +18,7 @@ pub enum Place {
 }
 
 // The claim of an instruction: document 01's numbers for each case are `claimNumbers` of specs/Told.antt.
-#[derive(Drop)]
+#[derive(Clone, Copy)]
 pub enum Claimed {
     Is(Claim),
     Refused(Refusal),

@@ -1,5 +1,7 @@
 // The program `verify`: reads a trace from standard input and prints its verdict in one line. What is printed for the bytes read is promised by
 // `put_report`; that it reads and writes them is tested.
+#![tactic(auto)]
+
 ghost use Rattle.text.specs.Line.{Front};
 ghost use Rattle.checker.specs.declared.Verdict.TheVariants.{Accepted, Broken};
 ghost use Rattle.verify.specs.Report.{line, report};

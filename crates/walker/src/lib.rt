@@ -1,4 +1,6 @@
 // A walker over a lent trace: it holds the trace and the next row, and each step gives one cycle.
+#![tactic(auto)]
+
 ghost use Rattle.std.specs.Prelude.{◌≡◌};
 ghost use Rattle.walker.specs.Walk.{start_of, told_start, walked_bytes, begun, opened, Steps, first_part};
 
@@ -7,21 +9,21 @@ use refusal::Refusal;
 use trace::admit::{Admitted, admit};
 
 // The lent trace and the next row.
-#[derive(Drop)]
+#[derive(Clone, Copy)]
 pub struct Walker<'a> {
     pub trace: &'a [u8],
     pub next: usize,
 }
 
 // Why no walker was opened, its number 0 where one was; and the walker, over an empty trace where none was.
-#[derive(Drop)]
+#[derive(Clone, Copy)]
 pub struct Opened<'a> {
     pub why: Refusal,
     pub walker: Walker<'a>,
 }
 
 // Why a walker may not start, its number 0 where it may; and the row where it starts.
-#[derive(Drop)]
+#[derive(Clone, Copy)]
 pub struct Start {
     pub why: Refusal,
     pub next: usize,

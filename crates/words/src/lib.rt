@@ -1,5 +1,7 @@
 // The words that the rules are written in: tests and choices, on numbers that are wide enough for every sum; and what the rules ask of cells,
 // in these words. Only crates of this repository call these functions.
+#![tactic(auto)]
+
 ghost use Rattle.std.specs.Prelude.{◌≡◌, ◌+◌, ◌^◌, ◌<◌, ◌≤◌, ◌==◌};
 ghost use Rattle.number.specs.Whole.{val};
 ghost use Rattle.model.specs.Constraints.{last_ct};

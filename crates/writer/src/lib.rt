@@ -1,5 +1,7 @@
 // A row written to a lent buffer: cells that stand side by side are stored as one number, and the bytes outside of the row stay. Only crates of this
 // repository call `put_row`: it asks that there is room for the row.
+#![tactic(auto)]
+
 ghost use Rattle.std.specs.Prelude.{◌≡◌, ◌+◌, ◌*◌, ◌≤◌, length};
 ghost use Rattle.std.proofs.lemmas.List.Edits.{sets};
 ghost use Rattle.number.specs.Cells.{encode};
