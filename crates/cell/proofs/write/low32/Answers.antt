@@ -6,4 +6,4 @@ use Rattle.cell.proofs.write.low32.Goals as goal
 pub returns : goal.returns
 returns c =
     let a = c.args in
-    low_cut a.buf-1.now a.at 2 2 a.v c.low16.ensures c.low16-2.ensures
+    low_cut a.buf.now a.at 2 2 a.v c.low16.ensures c.low16-2.ensures

@@ -6,4 +6,4 @@ use Rattle.cell.proofs.write.low64.Goals as goal
 pub returns : goal.returns
 returns c =
     let a = c.args in
-    low_cut a.buf-1.now a.at 4 4 a.v c.low32.ensures c.low32-2.ensures
+    low_cut a.buf.now a.at 4 4 a.v c.low32.ensures c.low32-2.ensures

@@ -7,4 +7,4 @@ use Rattle.cell.proofs.write.put_u24.Goals as goal
 pub returns : goal.returns
 returns c =
     let a = c.args in
-    sets_cut a.buf-1.now a.at 2 1 a.v (rw be-two at c.put_u16.ensures) c.put_u8.ensures
+    sets_cut a.buf.now a.at 2 1 a.v (rw be-two at c.put_u16.ensures) c.put_u8.ensures

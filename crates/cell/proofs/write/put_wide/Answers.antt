@@ -14,5 +14,5 @@ returns c =
     let a = c.args in
     c.put_u64-2.ensures
     ∙ sets_then _ _ 8 a.v.hi (be 8 a.v.lo) c.put_u64.ensures
-    ∙ sets_then a.buf-1.now a.at 1 a.v.top (be 8 a.v.hi ++ be 8 a.v.lo) c.put_u8.ensures
-    ∙ ap (sets a.buf-1.now a.at) (sym (be-val a.v (omega (arith, c)) (omega (arith, c))))
+    ∙ sets_then a.buf.now a.at 1 a.v.top (be 8 a.v.hi ++ be 8 a.v.lo) c.put_u8.ensures
+    ∙ ap (sets a.buf.now a.at) (sym (be-val a.v (omega (arith, c)) (omega (arith, c))))
