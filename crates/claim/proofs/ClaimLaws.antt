@@ -17,7 +17,7 @@ use Rattle.refusal.specs.Refusals.{cn_zero, not_listed, unused_field}
 use Rattle.claim.specs.Claims.{end1, end2, claim_of}
 use Rattle.claim.specs.Instruction.{Fields, Range, Touched, nothing, one, two, Instruction, Use, use_of, unused_zero, used}
 use Rattle.claim.specs.Instruction.{instruction_of, Decoded, decoded, refused, decode, UnusedZero, Sized}
-use Rattle.claim.specs.Instruction.{Answer, cn_zero_lem, not_listed, unused_field_lem, instruction}
+use Rattle.claim.specs.Instruction.{Answer, cn_is_zero, op_not_listed, field_unused, instruction}
 use Rattle.claim.specs.Told.{told_touched, plain_touched, told_instruction, plain_instruction}
 
 -- ---- the answer for a line
@@ -82,15 +82,15 @@ module _ (f : Fields) where
       by : (a b c : Bool) → eqb f.cn 0 ≡ a → eqb (category_of f.op) unlisted ≡ b → unused_zero (used f).fields f ≡ c → Answer f (decode f)
       by true b c p q r =
           let e = eqb-true f.cn 0 p in
-          rw (zero_refused e) (cn_zero_lem e)
+          rw (zero_refused e) (cn_is_zero e)
       by false true c p q r =
           let n = eqb-false f.cn 0 p in
           let e = eqb-true (category_of f.op) unlisted q in
-          rw (unlisted_refused n e) (not_listed n e)
+          rw (unlisted_refused n e) (op_not_listed n e)
       by false false false p q r =
           let n = eqb-false f.cn 0 p in
           let k = eqb-false (category_of f.op) unlisted q in
-          rw (unused_refused n k r) (unused_field_lem n k (λ u. false≢true (sym r ∙ zero_unused (used f).fields f u)))
+          rw (unused_refused n k r) (field_unused n k (λ u. false≢true (sym r ∙ zero_unused (used f).fields f u)))
       by false false true p q r =
           let n = eqb-false f.cn 0 p in
           let k = eqb-false (category_of f.op) unlisted q in
@@ -104,9 +104,9 @@ module _ (f : Fields) where
       by false e = refl
 
   answered : {d : Decoded} → Answer f d → decode f ≡ d
-  answered (cn_zero_lem e) = zero_refused e
-  answered (not_listed n e) = unlisted_refused n e
-  answered (unused_field_lem n k u) = unused_refused n k (not_unused_zero u)
+  answered (cn_is_zero e) = zero_refused e
+  answered (op_not_listed n e) = unlisted_refused n e
+  answered (field_unused n k u) = unused_refused n k (not_unused_zero u)
   answered (instruction n k u) = rest_decoded n k (zero_unused (used f).fields f u)
 
   -- a line is refused with 4 exactly if its cn is 0; with 5 exactly if cn is not 0 and its opcode is in no row; with 6 exactly if cn is not 0, the

@@ -94,9 +94,9 @@ pub record UnusedZero (n : ℕ) (f : Fields) : Type 0 where
 
 -- the four answers for a line, and what each says of it; no two of them go together
 pub data Answer (f : Fields) : Decoded → Type 0 where
-  cn_zero_lem : f.cn ≡ 0 → Answer f (refused cn_zero)
-  not_listed : f.cn ≢ 0 → category_of f.op ≡ unlisted → Answer f (refused not_listed)
-  unused_field_lem : f.cn ≢ 0 → category_of f.op ≢ unlisted → ¬ UnusedZero (used f).fields f → Answer f (refused unused_field)
+  cn_is_zero : f.cn ≡ 0 → Answer f (refused cn_zero)
+  op_not_listed : f.cn ≢ 0 → category_of f.op ≡ unlisted → Answer f (refused not_listed)
+  field_unused : f.cn ≢ 0 → category_of f.op ≢ unlisted → ¬ UnusedZero (used f).fields f → Answer f (refused unused_field)
   instruction : f.cn ≢ 0 → category_of f.op ≢ unlisted → UnusedZero (used f).fields f → Answer f (decoded (instruction_of f))
 
 -- fields as wide as those of a line: cn has 32 bits, op 8, offsets and lengths have 128

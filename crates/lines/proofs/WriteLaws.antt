@@ -25,7 +25,7 @@ use Rattle.model.proofs.StateLaws.{all_sound_fresh}
 use Rattle.row.proofs.RowLaws.{write_more}
 use Rattle.state.specs.Plain.{context}
 use Rattle.recent.specs.Notes.{slots, slot_of, Span, no_span, wider, Known, recalled}
-use Rattle.recent.proofs.NoteLaws.{noted_in}
+use Rattle.recent.proofs.NoteLaws.{noted_in_lem}
 use Rattle.refusal.specs.declared.Refusal.{Refusal}
 use Rattle.claim.specs.Claims.{claim_of}
 use Rattle.claim.specs.Instruction.{Instruction}
@@ -176,7 +176,7 @@ module _ {t l buf notes : List ℕ} {s : Span} {first at row k q : ℕ} {i : cod
     room = room;
     few = omega (arith, w.few, rows_there, ap last_of own, f.rows);
     before = few_claims;
-    noted = noted_in f.known (length buf) (omega (arith, f.rows, w.some)) (omega (arith, room));
+    noted = noted_in_lem f.known (length buf) (omega (arith, f.rows, w.some)) (omega (arith, room));
     sound = rw (recalls (context c.context)) (all_sound_claims fresh claims all_sound_fresh (context c.context));
   }
 

@@ -38,7 +38,7 @@ values_back (a ∷ b ∷ c ∷ d ∷ e ∷ f ∷ g ∷ vs) h = absurd h.1.1.1.1.
 -- a line holds characters only, and has one
 pub line_chars : (f : Fields) → all_chars (print_line f) ≡ true
 unfolding print_line
-line_chars f = form.print-chars line_fields line_end (values f) chars
+line_chars f = form.print_chars line_fields line_end (values f) chars
 
 -- it has a character
 pub line_some : (f : Fields) → 1 ≤ length (print_line f)
@@ -48,7 +48,7 @@ line_some f = omega arith
 -- a line of the form is read to exactly its fields
 pub read_printed : (t : List ℕ) (p : ℕ) (f : Fields) → LineRoom f → Stands t p (print_line f) → read_line t p ≡ got f (p + length (print_line f))
 unfolding read_line print_line
-read_printed t p f h st = rw (form.read-printed line_end t line_fields p (values f) separate h st)
+read_printed t p f h st = rw (form.read_printed line_end t line_fields p (values f) separate h st)
 
 -- what was read is the line of its fields
 pub print_read : (t : List ℕ) (p : ℕ) {f : Fields} {q : ℕ} → read_line t p ≡ got f q
@@ -56,7 +56,7 @@ pub print_read : (t : List ℕ) (p : ℕ) {f : Fields} {q : ℕ} → read_line t
 unfolding read_line print_line
 print_read t p {f} {q} e =
     let s = then_got (read_form line_fields line_end t p) (λ vs r. got (fields_of vs) r) e in
-    let r = form.print-read line_end t line_fields p s.2 in
+    let r = form.print_read line_end t line_fields p s.2 in
     let fields : fields_of s.0 ≡ f = cc in
     let place : s.1 ≡ q = cc in
     let vs : values f ≡ s.0 = ap values (sym fields) ∙ values_back s.0 r.0 in
@@ -73,7 +73,7 @@ line_back t p {f} {q} e =
 pub stop_begins : (t : List ℕ) (p : ℕ) {q : ℕ} → read_line t p ≡ stop q → (f : Fields) × LineRoom f × Begins t p q (print_line f)
 unfolding read_line print_line
 stop_begins t p e =
-    let s = form.stop-begins line_end t line_fields p (made_stop (read_form line_fields line_end t p) fields_of e) in
+    let s = form.stop_begins line_end t line_fields p (made_stop (read_form line_fields line_end t p) fields_of e) in
     let vs : values (fields_of s.0) ≡ s.0 = values_back s.0 s.1 in
     (fields_of s.0, rw vs s.1, rw vs s.2)
 
@@ -82,7 +82,7 @@ pub stop_first : (t : List ℕ) (p : ℕ) (f : Fields) (m : ℕ) {q : ℕ} → L
     → read_line t p ≡ stop q → p + m ≤ q
 unfolding read_line print_line
 stop_first t p f m h l st e =
-    form.stop-first line_end t line_fields p (values f) m separate h l st (made_stop (read_form line_fields line_end t p) fields_of e)
+    form.stop_first line_end t line_fields p (values f) m separate h l st (made_stop (read_form line_fields line_end t p) fields_of e)
 
 -- a line ends behind its beginning and inside of the text
 pub line_inside : (t : List ℕ) (p : ℕ) {f : Fields} {q : ℕ} → read_line t p ≡ got f q → (p < q) × (q ≤ length t)
@@ -94,4 +94,4 @@ line_inside t p {f} {q} e =
 -- the place where the reader stops is in the text or at its end
 pub stop_inside : (t : List ℕ) (p : ℕ) {q : ℕ} → read_line t p ≡ stop q → (p ≤ q) × (q ≤ max p (length t))
 unfolding read_line
-stop_inside t p e = form.stop-inside line_end t line_fields p chars (made_stop (read_form line_fields line_end t p) fields_of e)
+stop_inside t p e = form.stop_inside line_end t line_fields p chars (made_stop (read_form line_fields line_end t p) fields_of e)

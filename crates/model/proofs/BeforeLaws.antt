@@ -11,7 +11,7 @@ use Rattle.model.specs.State.{Context, State, same_context, fresh, put}
 use Rattle.model.specs.Trace.{row_of, after, after_claim}
 use Rattle.model.specs.Verdict.{passed, before}
 use Rattle.model.proofs.ReadBack.{is_row}
-use Rattle.model.proofs.RowFacts.{in_use}
+use Rattle.model.proofs.RowFacts.{in_use_lem}
 use Rattle.model.proofs.TestFacts.{pick_second}
 
 put_twice : (states : Context → State) (x : Context) (s : State) → put (put states x s) x s ≡ put states x s
@@ -39,7 +39,7 @@ module _ (r : ℕ → Cells) where
     unfolding passed
     passed-row states i h =
         let f = is_row k s c i in
-        rw (rows i h, in_use (row_of k s c i) (λ e. used (sym f.stamp ∙ e)), f.context, f.state)
+        rw (rows i h, in_use_lem (row_of k s c i) (λ e. used (sym f.stamp ∙ e)), f.context, f.state)
 
     over_rows : (i : ℕ) → i ≤ m → before r (p + suc i) ≡ after_claim (before r p) c
     unfolding before

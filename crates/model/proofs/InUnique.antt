@@ -139,11 +139,11 @@ turned_false t a b x g ua ub ux =
       part2 = zx 7;
     }
 
-in_rows : (f : ℕ → ℕ) (a b c : ℕ) → f 0 ≡ a → f 1 ≡ b → f 2 ≡ c → (i : ℕ) → i ≤ in_last → f i ≡ in_rows a b c i
-in_rows f a b c p q r zero h = p
-in_rows f a b c p q r (suc zero) h = q
-in_rows f a b c p q r (suc (suc zero)) h = r
-in_rows f a b c p q r (suc (suc (suc i))) h = absurd (omega arith)
+in_rows_lem : (f : ℕ → ℕ) (a b c : ℕ) → f 0 ≡ a → f 1 ≡ b → f 2 ≡ c → (i : ℕ) → i ≤ in_last → f i ≡ in_rows a b c i
+in_rows_lem f a b c p q r zero h = p
+in_rows_lem f a b c p q r (suc zero) h = q
+in_rows_lem f a b c p q r (suc (suc zero)) h = r
+in_rows_lem f a b c p q r (suc (suc (suc i))) h = absurd (omega arith)
 
 -- ---- the rows
 
@@ -305,13 +305,13 @@ module _ (v : ℕ → View) (rows : Rows in_last 0 v) where
         q2 = (same 12 ∙ u.q2) j;
         q2byte = q.q2.0 j;
         q2acc = q.q2.1 j;
-        aux1 = in_rows (λ i. (row i).aux1) _ _ _ u.rest0 u.rest1 u.rest2 i h j;
-        aux2 = in_rows (λ i. (row i).aux2) _ _ _ u.part0 u.part1 u.part2 i h j;
+        aux1 = in_rows_lem (λ i. (row i).aux1) _ _ _ u.rest0 u.rest1 u.rest2 i h j;
+        aux2 = in_rows_lem (λ i. (row i).aux2) _ _ _ u.part0 u.part1 u.part2 i h j;
       }
 
-  in_bounds : in_bounds (claim_of z) ≡ true
+  in_bounds_lem : in_bounds (claim_of z) ≡ true
   unfolding in_bounds k10 k11
-  in_bounds =
+  in_bounds_lem =
       let one : z.acc1 < 256 ^ 3 = sum_fits in_last 0 v rows (λ x. x.byte1) (λ x. x.acc1) (λ i h. (small i h).byte1) (met10 in_last 0 v rows) in
       let two : z.acc2 < 256 ^ 3 = sum_fits in_last 0 v rows (λ x. x.byte2) (λ x. x.acc2) (λ i h. (small i h).byte2) met11 in
       both_intro (ltb z.end1 bound) (ltb z.end2 bound)
@@ -319,7 +319,7 @@ module _ (v : ℕ → View) (rows : Rows in_last 0 v) where
 
   -- the claim that the first row shows is in bounds
   pub in_claim : in_bounds (claim_of (row 0)) ≡ true
-  in_claim = as_first in_last 0 v rows (λ s c. in_bounds c ≡ true) in_bounds
+  in_claim = as_first in_last 0 v rows (λ s c. in_bounds c ≡ true) in_bounds_lem
 
   -- and the rows are those of that claim, at the state before it that the first row shows
   pub in_unique : (i : ℕ) → i ≤ in_last → row i ≡ row_of (row 0).stamp (state_in (row 0)) (claim_of (row 0)) i

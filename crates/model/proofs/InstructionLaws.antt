@@ -107,8 +107,8 @@ module _ (l : List ℕ) (a : Accepted l) where
     first_row_is : cycle.row ≡ row_after (suc k) done c 0
     first_row_is = ap (λ (y : Cycle). y.row) cycle_is
 
-    rows_in : rows_in cycle ≡ suc (last_of c)
-    rows_in = ap suc (ap (λ (x : Cells). last_ct x.ooob) first_row_is ∙ last_of_row (suc k) (after_claims fresh done c.context) c 0)
+    rows_in_lem : rows_in cycle ≡ suc (last_of c)
+    rows_in_lem = ap suc (ap (λ (x : Cells). last_ct x.ooob) first_row_is ∙ last_of_row (suc k) (after_claims fresh done c.context) c 0)
 
     rows_of_lem : take (suc (last_of c)) (drop (length (trace n done)) (trace n cs)) ≡ cycle_of (suc k) (after_claims fresh done c.context) c
     rows_of_lem = rw (← claim_is c) at (rows_of_instruction n k cs c h)
@@ -134,7 +134,7 @@ module _ (l : List ℕ) (a : Accepted l) where
     part_is =
         let p : ℕ = length (trace n done) in
         let m : ℕ = suc (last_of c) in
-        sym part_there ∙ rw (rows_in, first_is) (ap (λ (b : List ℕ). take (m * row_bytes) (drop (p * row_bytes) b)) own_bytes
+        sym part_there ∙ rw (rows_in_lem, first_is) (ap (λ (b : List ℕ). take (m * row_bytes) (drop (p * row_bytes) b)) own_bytes
         ∙ bytes_part (trace n cs) p m inside ∙ ap bytes_of rows_of_lem)
 
     -- each of its rows is that of its claim after the claims before it

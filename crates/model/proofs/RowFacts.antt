@@ -37,14 +37,14 @@ module _ (r : ℕ → Cells) (n i : ℕ) where
 -- ---- the conditions that constraints stand under
 
 -- a row whose STAMP is not 0 is one of an instruction
-pub in_use : (x : Cells) → x.stamp ≢ 0 → in_use x ≡ true
+pub in_use_lem : (x : Cells) → x.stamp ≢ 0 → in_use x ≡ true
 unfolding in_use
-in_use x u = ap not (ne_eqb x.stamp 0 u)
+in_use_lem x u = ap not (ne_eqb x.stamp 0 u)
 
 module _ (x : Cells) (u : x.stamp ≢ 0) where
   -- it meets what one of 7 to 25 asks
   pub of_used : (k : Bool) → used x k ≡ true → k ≡ true
-  of_used k h = implies_use (in_use x) k h (in_use x u)
+  of_used k h = implies_use (in_use x) k h (in_use_lem x u)
 
   -- what one of 11 to 23 asks, where OOOB=0
   pub of_within : x.ooob ≡ 0 → (k : Bool) → within x k ≡ true → k ≡ true

@@ -24,7 +24,7 @@ use Rattle.model.proofs.ConstraintFacts.{says5, says9}
 use Rattle.model.proofs.CycleRows.{Rows, state_in}
 use Rattle.model.proofs.InUnique.{in_claim, in_unique}
 use Rattle.model.proofs.OutUnique.{out_claim, out_unique}
-use Rattle.model.proofs.RowFacts.{Each, each, in_use, of_used}
+use Rattle.model.proofs.RowFacts.{Each, each, in_use_lem, of_used}
 use Rattle.model.proofs.StepLaws.{Steps, Start, Run, At, run, steady, over_cycles, over_empty}
 use Rattle.model.proofs.TableOf.{length-table, table_path, drop-first, drop-table}
 use Rattle.model.proofs.TestFacts.{implies_use, if_equal_use, if_unequal_use, zeros_are}
@@ -54,7 +54,7 @@ module _ (r : ℕ → Cells) (n : ℕ) (some : 0 < n) (holds : (i : ℕ) → i <
     stamps = λ i h. if_unequal_use (suc i) 0 _ (each_at (suc i) h 2) (suc-ne-zero i);
     cts = λ i h. each_at (suc i) h 3;
     same = λ i h z. ap last_ct (ooob_inside i h z);
-    whole = λ i e z. eqb-true _ _ (implies_use _ _ (each_at i (omega arith) 25) (both_intro _ _ (eq-eqb (suc i) n e) (in_use (r i) z)));
+    whole = λ i e z. eqb-true _ _ (implies_use _ _ (each_at i (omega arith) 25) (both_intro _ _ (eq-eqb (suc i) n e) (in_use_lem (r i) z)));
   }
 
   first_stamp : stamp 0 ≡ 0
@@ -166,7 +166,7 @@ module _ (r : ℕ → Cells) (n : ℕ) (some : 0 < n) (holds : (i : ℕ) → i <
       let m : ℕ = last (suc p) in
       let fits : suc p + suc m ≤ n = omega (arith, (run n stamp ct last steps (suc p) b m (omega arith)).fits) in
       let same = table_path (suc m) (λ i. r (suc p + i)) _ (λ i h. rows_of_lem p b i (omega arith)) in
-      rw (← (is p b).last-is) (drop-table n r (suc m) (suc p) fits ∙ ap (λ (l : List Cells). l ++ drop (suc p + suc m) rows_here) same)
+      rw (← (is p b).last_is) (drop-table n r (suc m) (suc p) fits ∙ ap (λ (l : List Cells). l ++ drop (suc p + suc m) rows_here) same)
 
   cycles_next : (p : ℕ) → Begins (suc p) → CyclesFrom (suc p + suc (last (suc p))) (suc (stamp (suc p))) → CyclesFrom (suc p) (stamp (suc p))
   unfolding cycles_of
@@ -174,7 +174,7 @@ module _ (r : ℕ → Cells) (n : ℕ) (some : 0 < n) (holds : (i : ℕ) → i <
       let states = ap (λ (states : Context → State). cycles_of (suc (stamp (suc p))) states rest.claims) (before_next p b) in
       record {
         claims = claim_of (r (suc p)) ∷ rest.claims;
-        are_valid = (valid p b, rest.are-valid);
+        are_valid = (valid p b, rest.are_valid);
         stand = cycle_stands_lem p b ∙ ap (λ (l : List Cells). own p b ++ l) (rest.stand ∙ states);
       }
 
@@ -209,7 +209,7 @@ module _ (r : ℕ → Cells) (n : ℕ) (some : 0 < n) (holds : (i : ℕ) → i <
       record {
         more = 0;
         claims = f.claims;
-        are_valid = f.are-valid;
+        are_valid = f.are_valid;
         stand = drop_empty p h e
             ∙ ap (λ (l : List Cells). empty_row ∷ l) (f.stand ∙ ap (λ (states : Context → State). cycles_of 1 states f.claims) c);
       }
@@ -220,7 +220,7 @@ module _ (r : ℕ → Cells) (n : ℕ) (some : 0 < n) (holds : (i : ℕ) → i <
       record {
         more = suc w.more;
         claims = w.claims;
-        are_valid = w.are-valid;
+        are_valid = w.are_valid;
         stand = drop_empty p (omega arith) e ∙ ap (λ (l : List Cells). empty_row ∷ l) w.stand;
       }
 
@@ -229,4 +229,4 @@ module _ (r : ℕ → Cells) (n : ℕ) (some : 0 < n) (holds : (i : ℕ) → i <
   unfolding before trace
   rows_are_trace =
       let w : Whole 0 = over_empty n stamp ct last steps From from_first from_more 0 some first_stamp refl in
-      (w.more, w.claims, w.are-valid, w.stand)
+      (w.more, w.claims, w.are_valid, w.stand)

@@ -131,8 +131,8 @@ slot_lt x = omega arith
 
 module _ {l : List ℕ} {s : Span} {r : ℕ → Cells} {i : ℕ} (known : Known l s r i) where
   -- the noted rows are some of those before
-  pub noted_in : (bytes : ℕ) → 0 < i → i * row_bytes ≤ bytes → noted_in bytes l
-  noted_in bytes some h slot m =
+  pub noted_in_lem : (bytes : ℕ) → 0 < i → i * row_bytes ≤ bytes → noted_in bytes l
+  noted_in_lem bytes some h slot m =
       let k : get_or l slot 0 ≤ i - 1 = rw (known.entry slot m) (latest-le r slot i) in
       omega arith
 

@@ -19,7 +19,7 @@ use Rattle.model.specs.Verdict.{row_before, before}
 use Rattle.model.proofs.ConstraintFacts.{says8}
 use Rattle.model.proofs.CycleRows.{claim-kept, left-kept}
 use Rattle.model.proofs.LatestCycle.{through, last_snoc, latest_cycle}
-use Rattle.model.proofs.RowFacts.{in_use, of_used}
+use Rattle.model.proofs.RowFacts.{in_use_lem, of_used}
 use Rattle.model.proofs.StepLaws.{stamp_after_empty, stamp_inside, stamp_over, ct_inside, same_stamp_lem}
 use Rattle.model.proofs.TableOf.{table_snoc}
 use Rattle.model.proofs.TestFacts.{if_unequal_use}
@@ -129,7 +129,7 @@ module _ (r : ℕ → Cells) (n : ℕ) (x : Context) where
           place = omega (arith, w.place);
           stamp = w.stamp;
           between = w.between;
-          answers = answer-stays (suc i) (rw (in_use (r (suc i)) used) (ne_eqb _ _ inside)) ∙ rw (context, state) w.answers;
+          answers = answer-stays (suc i) (rw (in_use_lem (r (suc i)) used) (ne_eqb _ _ inside)) ∙ rw (context, state) w.answers;
         },
       )
 

@@ -51,9 +51,9 @@ pub record Going (r : ℕ → Cells) (x : Context) (row limit to k : ℕ) : Type
 pub going_first : (r : ℕ → Cells) (x : Context) (row limit : ℕ) → Going r x row limit row 0
 going_first r x row limit = record { back = omega arith; within = omega arith; rest = rw (sub-zero, zero-add) }
 
-row_before : (r : ℕ → Cells) (to : ℕ) → to ≢ 0 → row_before r to ≡ r (to - 1)
-row_before r zero later = absurd (later refl)
-row_before r (suc last) later =
+row_before_lem : (r : ℕ → Cells) (to : ℕ) → to ≢ 0 → row_before r to ≡ r (to - 1)
+row_before_lem r zero later = absurd (later refl)
+row_before_lem r (suc last) later =
     let e : suc last - 1 ≡ last = omega arith in
     rw e
 
@@ -76,7 +76,7 @@ module _ {r : ℕ → Cells} {x : Context} {row limit to k : ℕ} (g : Going r x
   module _ {n : ℕ} (later : to ≢ 0) (rows : n ≡ cycle_rows (r (to - 1))) where
     -- it ends where they are not all there
     pub ends_at_part : to < n → none_in k ≡ search_back r x limit row
-    ends_at_part h = ends (rw (row_before r to later, ← rows) h)
+    ends_at_part h = ends (rw (row_before_lem r to later, ← rows) h)
 
     module _ (some : k ≢ limit) (whole : n ≤ to) where
       turn : ahead k (pick (same_context (context_of (r (to - 1))) x) (found_at (to - 1)) (one_more (search_back r x (limit - (k + 1)) (to - n))))
