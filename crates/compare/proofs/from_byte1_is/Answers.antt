@@ -1,0 +1,20 @@
+-- `compare::from_byte1_is` meets its contract: cell by cell.
+use mathlib.Core.Bool.{and_assoc, and-true}
+use borrow.Author.Rules.{rules}
+use Rattle.model.specs.Constraints.{equal}
+use Rattle.compare.specs.Same.{same_in}
+use Rattle.compare.proofs.from_byte1_is.Goals as goal
+
+pub returns : goal.returns
+unfolding same_in equal
+returns c =
+    simp (
+      c.u32_at.ensures,
+      c.is_4_4.ensures,
+      c.is_3_3.ensures,
+      c.u24_at.ensures,
+      c.is_wide.ensures,
+      c.is_1_1.ensures,
+      and_assoc,
+      and-true,
+    )
