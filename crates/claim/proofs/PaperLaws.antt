@@ -15,7 +15,7 @@ use Rattle.opcode.proofs.TableLaws.{exactly_listed}
 use Rattle.gas.specs.Gas.{words, range_end}
 use Rattle.gas.specs.Paper.{M}
 use Rattle.gas.proofs.PaperLaws.{words-paper}
-use Rattle.model.specs.Alone.{paper_words, ByPaper}
+use Rattle.model.specs.Alone.{paper_words, counted, ByPaper}
 use Rattle.model.specs.Columns.{Cells, row_at, rows_of}
 use Rattle.model.specs.Cycles.{Claim, instruction, instruction_claim}
 use Rattle.model.specs.Promises.{Carries, claims_in}
@@ -103,7 +103,8 @@ pub over_claims : (x : Context) (w : ℕ) {fs : List Fields} {is : List Instruct
     → paper_over x w fs ≡ paper_words x w (map claim_of is)
 unfolding paper_over paper_words
 over_claims x w none = refl
-over_claims x w (more {f = f} e d) = rw (e, ← step_by_paper w f e) (over_claims x _ d)
+over_claims x w (more {f = f} {i = i} e d) =
+    rw (e, ← step_by_paper w f e) (over_claims x (pick (counted x (claim_of i)) (M (M w 0 (claim_of i).end1) 0 (claim_of i).end2) w) d)
 
 one_more : {fs : List Fields} {is : List Instruction} {i : Instruction} → Decodes fs is → (f : Fields) → decode f ≡ decoded i
     → Decodes (fs ++ (f ∷ [])) (is ++ (i ∷ []))

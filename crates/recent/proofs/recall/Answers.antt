@@ -1,0 +1,62 @@
+-- `recent::recall` meets its contract by the cases of `recalled`. A noted row stands in the bytes, and so do the rows before it.
+use Prim.Native.Nat.{ℕ, ◌+◌, ◌*◌, ◌≤◌}
+use mathlib.Core.Bool.{false}
+use mathlib.Core.Path.{◌≡◌, sym, ◌∙◌, ap, ap₂}
+use native.Mathlib.Omega.{arith}
+use borrow.Author.Rules.{rules}
+use borrow.Author.Tests.{ne_eqb}
+use lib.ListN.{length, get_or}
+use Rattle.model.specs.Columns.{row_bytes, row_at}
+use Rattle.model.specs.Cycles.{Looked}
+use Rattle.state.specs.Look.{look_back}
+use Rattle.state.specs.Plain.{context}
+use Rattle.recent.specs.Notes.{plain_span, outside}
+use Rattle.recent.proofs.recall.Goals as goal
+
+-- behind the first test the context is inside of the span
+inside : (c : tie.After-slot-of)
+    → let a = c.before.before.before.before.args in
+    outside (plain_span a.span) (context a.x) ≡ false
+inside c = sym c.before.before.is-outside.ensures ∙ c.before.if1.false
+
+-- the noted row is there
+there : (c : tie.After-slot-of)
+    → let a = c.before.before.before.before.args in
+    (get_or a.notes.now c.slot_of.result 0 + 1) * row_bytes ≤ length a.t.now
+there c = c.before.before.before.before.requires c.slot_of.result (omega (arith, c.slot_of.ensures))
+
+pub returns-then-is_outside : goal.returns-then-is_outside
+returns-then-is_outside c = rw (sym c.is_outside.ensures ∙ c.if-is_outside.true) c.start_state.ensures
+
+pub overflow_cast-last : goal.overflow_cast-last
+overflow_cast-last c = omega (arith, there c)
+
+pub returns-then-last-eq0 : goal.returns-then-last-eq0
+returns-then-last-eq0 c =
+    rw (inside c, ← c.slot_of-slot.ensures, c.if-last-eq0.true) c.start_state-then-last-eq0.ensures
+
+pub has_context-requires : goal.has_context-requires
+has_context-requires c = there c
+
+pub state_at-requires : goal.state_at-requires
+state_at-requires c = there c
+
+pub returns-then-has_context : goal.returns-then-has_context
+returns-then-has_context c =
+    rw (inside c, ← c.slot_of-slot.ensures, ne_eqb _ 0 c.if-last-eq0.false, sym c.has_context.ensures ∙ c.if-has_context.true) c.state_at.ensures
+
+pub stamp_at-cycles-requires : goal.stamp_at-cycles-requires
+stamp_at-cycles-requires c = there c
+
+pub overflow_add-last : goal.overflow_add-last
+overflow_add-last c = omega (arith, there c)
+
+pub state_before-looked-requires : goal.state_before-looked-requires
+state_before-looked-requires c = omega (arith, there c)
+
+pub returns : goal.returns
+returns c =
+    let a = c.args in
+    rw (inside c, ← c.slot_of-slot.ensures, ne_eqb _ 0 c.if-last-eq0.false, sym c.has_context.ensures ∙ c.if-has_context.false)
+    (ap (λ (b : Looked). b.state) c.state_before-looked.ensures
+    ∙ ap₂ (λ (limit to : ℕ). (look_back (row_at a.t.now) (context a.x) limit to).state) c.stamp_at-cycles.ensures (omega arith))
