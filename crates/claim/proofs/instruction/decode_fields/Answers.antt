@@ -2,7 +2,6 @@
 use Prim.Native.Nat.{ℕ}
 use mathlib.Core.Path.{sym, ◌∙◌, ap}
 use borrow.Author.Rules.{rules}
-use borrow.Author.Tests.{not-true, not-false}
 use Rattle.claim.specs.Instruction.{use_of, unused_zero}
 use Rattle.claim.specs.Told.{plain_fields, told_use, told_decoded}
 use Rattle.claim.specs.declared.instruction.Decoded.TheVariants.{Made, Refused}
@@ -26,7 +25,7 @@ returns-then-not-unused_zero c =
     let a = c.args in
     let f = plain_fields a.f in
     let used = c.use_of-used.ensures ∙ ap (λ (k : ℕ). told_use (use_of k f)) c.category_of-category.ensures in
-    let some = ap (λ (u : Use). unused_zero u.fields f) (sym used) ∙ sym c.unused_zero.ensures ∙ not-true _ c.if-not-unused_zero.true in
+    let some = ap (λ (u : Use). unused_zero u.fields f) (sym used) ∙ sym c.unused_zero.ensures ∙ c.if-not-unused_zero.true in
     let e = unused_refused f c.if-f-eq0.false (λ z. c.if-category-eq-UNLISTED.false (c.category_of-category.ensures ∙ z)) some in
     ap Refused c.unused_field.ensures ∙ ap (told_decoded a.line) (sym e)
 
@@ -35,6 +34,6 @@ returns c =
     let a = c.args in
     let f = plain_fields a.f in
     let used = c.use_of-used.ensures ∙ ap (λ (k : ℕ). told_use (use_of k f)) c.category_of-category.ensures in
-    let none = ap (λ (u : Use). unused_zero u.fields f) (sym used) ∙ sym c.unused_zero.ensures ∙ not-false _ c.if-not-unused_zero.false in
+    let none = ap (λ (u : Use). unused_zero u.fields f) (sym used) ∙ sym c.unused_zero.ensures ∙ c.if-not-unused_zero.false in
     let e = rest_decoded f c.if-f-eq0.false (λ z. c.if-category-eq-UNLISTED.false (c.category_of-category.ensures ∙ z)) none in
     ap (λ (u : Use). Made (record { context = record { cn = f.cn }; op = f.op; touched = u.touched })) used ∙ ap (told_decoded a.line) (sym e)
