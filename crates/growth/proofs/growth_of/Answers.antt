@@ -5,19 +5,12 @@ use borrow.Author.Rules.{rules}
 use borrow.Author.Tests.{le-ltb}
 use Rattle.model.specs.Tests.{bit}
 use Rattle.model.specs.Trace.{above, last_word, last_byte, square, reach}
-use Rattle.growth.proofs.growth_of.Statement.{statement}
-use Rattle.growth.proofs.growth_of.Tie as tie
+use Rattle.growth.proofs.growth_of.Goals as goal
 
-grow-requires : tie.Need-grow-requires
-grow-requires c κs = search rules
-
-returns : tie.Need-returns
-returns c = search rules
-
-returns-2 : tie.Need-returns-2
+pub returns-else-s-top : goal.returns-else-s-top
 unfolding above reach last_word last_byte square
-returns-2 c =
-    let a = c.before.before.before.before.before.args in
+returns-else-s-top c =
+    let a = c.args in
     let below = le-ltb a.s.mem.0 a.top.0 (omega arith) in
     record {
       flag = sym (ap bit below);
@@ -29,6 +22,3 @@ returns-2 c =
       lifted = rw below refl;
       square = rw below refl;
     }
-
-pub growth-of-spec : {M : Type 1} → statement M
-growth-of-spec = tie.close (tie.spec grow-requires returns returns-2)

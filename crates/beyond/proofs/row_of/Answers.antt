@@ -12,8 +12,7 @@ use Rattle.model.proofs.FitLaws.{paid_lt}
 use Rattle.row.specs.Plain.{TailOf, plain}
 use Rattle.row.specs.declared.cells.Row.{Row}
 use Rattle.row.proofs.PlaceLaws.{parts_make}
-use Rattle.beyond.proofs.row_of.Statement.{statement}
-use Rattle.beyond.proofs.row_of.Tie as tie
+use Rattle.beyond.proofs.row_of.Goals as goal
 
 -- the tail of the empty row is that of an out_of_bounds row
 tail_empty : (stamp : ℕ) (s : State) (c : Claim) (i : ℕ) (x : Row) → plain x ≡ empty_row → TailOf (out_row stamp s c i) x.tail
@@ -31,19 +30,13 @@ tail_empty stamp s c i x e = record {
   aux2 = ap (λ (y : Cells). y.aux2) e;
 }
 
-empty-row-requires : tie.Need-empty-row-requires
-empty-row-requires c κs = search rules
+pub overflow_cast-cost : goal.overflow_cast-cost
+overflow_cast-cost c =
+    omega (arith, paid_lt c.requires.sound)
 
-cast-cost : tie.Need-overflow-cast-cost
-cast-cost c =
-    let start = c.before.before.before.before.before in
-    omega (arith, paid_lt start.requires.0)
-
-returns : tie.Need-returns
+pub returns : goal.returns
 unfolding out_row
 returns c =
-    let made = c.before.before.before.before in
-    let start = made.before in
     parts_make _ _ _ _
     (record {
       stamp = refl;
@@ -52,13 +45,10 @@ returns c =
       ct = refl;
       end1 = refl;
       end2 = refl;
-      byte1 = start.requires.1.0;
+      byte1 = c.requires.byte_value;
       byte2 = refl;
-      acc1 = start.requires.1.1;
+      acc1 = c.requires.acc_value;
       acc2 = refl;
     })
     (record { mem = refl; memn = refl; cost = refl; costn = refl; gas = refl; comp = refl; dbyte = refl; dacc = refl; endmax = refl; flag = refl })
-    (tail_empty _ _ _ _ made.empty-row.result made.empty-row.ensures)
-
-pub row-of-spec : {M : Type 1} → statement M
-row-of-spec = tie.close (tie.spec empty-row-requires cast-cost returns)
+    (tail_empty _ _ _ _ c.empty_row-none.result c.empty_row-none.ensures)
