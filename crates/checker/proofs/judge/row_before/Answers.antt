@@ -1,0 +1,11 @@
+-- `checker::judge::row_before` gives the row before, by whether there is one.
+use mathlib.Core.Path.{◌∙◌}
+use borrow.Author.Rules.{rules}
+use Rattle.checker.proofs.RowLaws.{none_before, one-before}
+use Rattle.checker.proofs.judge.row_before.Goals as goal
+
+pub returns-then-i-eq0 : goal.returns-then-i-eq0
+returns-then-i-eq0 c = c.empty_row.ensures ∙ none_before _ _ c.if-i-eq0.true
+
+pub returns-else-i-eq0 : goal.returns-else-i-eq0
+returns-else-i-eq0 c = c.read_row.ensures ∙ one-before _ _ c.if-i-eq0.false
