@@ -8,22 +8,16 @@ use Rattle.model.specs.Columns.{row_at}
 use Rattle.state.specs.Plain.{context, state}
 use Rattle.recent.specs.Notes.{plain_span, recalled, slot_of}
 use Rattle.lines.proofs.put_claim.Goals as goal
-use Rattle.lines.proofs.put_claim.Goals.{After-recall-before}
-
--- the state that the call answers
-answers : (c : After-recall-before)
-    → let a = c.args in
-    state c.recall-before.result ≡ recalled (row_at a.buf.now) a.notes.now (plain_span a.span) (context a.c.context)
-answers c = c.recall-before.ensures
 
 pub put_cycle-requires : goal.put_cycle-requires
 put_cycle-requires c =
-    record { row_bytes_in_bounds = c.requires.room; sound = rw (answers c) c.requires.sound }
+    record { row_bytes_in_bounds = c.requires.room; sound = rw c.recall-before.ensures c.requires.sound }
 
 pub returns : goal.returns
 returns c =
     let a = c.args in
-    let last = c.rows_of.ensures in (
-      rw (← answers c, ← add-one a.cycles) c.put_cycle.ensures,
-      c.note.ensures ∙ ap (set a.notes.now (slot_of (context a.c.context))) (omega (arith, last)),
-    )
+    let last = c.rows_of.ensures in
+    record {
+      buf_after = rw (← c.recall-before.ensures, ← add-one a.cycles) c.put_cycle.ensures;
+      notes_after = c.note.ensures ∙ ap (set a.notes.now (slot_of (context a.c.context))) (omega (arith, last));
+    }
