@@ -10,19 +10,12 @@ use Rattle.count.specs.Counts.{told_counts}
 use Rattle.trace.proofs.AdmitLaws.{accepted_if_admitted, refused_if_not_admitted, empty_told}
 use Rattle.walker.specs.Walk.{start_of}
 use Rattle.walker.proofs.start_of.Goals as goal
-use Rattle.walker.proofs.start_of.Goals.{In-With-2}
-
--- the trace was let in with these counts
-let-in : (c : In-With-2)
-    → let t = c.args.t.now in Accepted t × (c.in-With.c ≡ told_counts (counts (rows_of t)))
-let-in c =
-    accepted_if_admitted c.args.t.now (λ i h. omega (arith, c.shared_slice_known-1.given i))
-    (sym c.admit-admitted.ensures ∙ c.in-With.is)
 
 pub returns-in-With : goal.returns-in-With
 unfolding start_of next_row
 returns-in-With c =
-    let (accepted, counted) = let-in c in
+    let (accepted, counted) =
+        accepted_if_admitted c.args.t.now (λ i h. omega (arith, c.shared_slice_known-1.given i)) (sym c.admit-admitted.ensures ∙ c.in-With.is) in
     rw (c.no_refusal.ensures, accepted.verdict, ← empty_told _ counted)
 
 pub returns-in-Refused : goal.returns-in-Refused
