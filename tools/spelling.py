@@ -24,7 +24,8 @@ MADE = re.compile(r"(?:Need|invariant|decreases|loop|returns|statement|measure|g
 
 def files(kinds):
     for folder, dirs, names in os.walk("."):
-        dirs[:] = sorted(d for d in dirs if d not in ("out", ".git", "target"))
+        built = os.path.dirname(os.path.dirname(folder)) == "."
+        dirs[:] = sorted(d for d in dirs if d not in (".git", "target") and not (built and d == "out"))
         for n in sorted(names):
             if n.endswith(kinds):
                 yield os.path.join(folder, n)

@@ -5,10 +5,10 @@
 ghost use Rattle.std.specs.Prelude.{◌≡◌, ◌+◌, ◌^◌, ◌≤◌, ◌<◌};
 ghost use Rattle.checker.specs.Answer as checker;
 ghost use Rattle.filler.specs.Answer as filler;
-ghost use Rattle.trace.specs.Told.{partNumbers, claimNumbers};
-ghost use Rattle.last.specs.Last.{lastNumbers};
-ghost use Rattle.walker.specs.Walk.{startNumbers};
-ghost use Rattle.out.specs.Out.{checkList, fillList, rowsList, claimList, lastList, openList, stepList, stepBetween};
+ghost use Rattle.trace.specs.Told.{part_numbers, claim_numbers};
+ghost use Rattle.last.specs.Last.{last_numbers};
+ghost use Rattle.walker.specs.Walk.{start_numbers};
+ghost use Rattle.out.specs.Out.{check_list, fill_list, rows_list, claim_list, last_list, open_list, step_list, step_between};
 
 use checker::Verdict;
 use filler::Filled;
@@ -19,7 +19,7 @@ use walker::Start;
 
 // A verdict: refused, line, 0, accepted, instructions, oob, empty, row, constraint.
 pub fn put_verdict(verdict: Verdict, out: &mut [u64; 9])
-    ensures { out.new ≡ checkList (checker.numbers verdict) }
+    ensures { out.new ≡ check_list (checker.numbers verdict) }
 {
     match verdict {
         Verdict::Accepted(c) => *out = [0, 0, 0, 1, c.instructions, c.oob, c.empty, 0, 0],
@@ -30,7 +30,7 @@ pub fn put_verdict(verdict: Verdict, out: &mut [u64; 9])
 
 // What the filler has done: refused, line, 0, rows.
 pub fn put_filled(filled: Filled, out: &mut [u64; 4])
-    ensures { out.new ≡ fillList (filler.numbers filled) }
+    ensures { out.new ≡ fill_list (filler.numbers filled) }
 {
     match filled {
         Filled::Rows(n) => *out = [0, 0, 0, n],
@@ -41,8 +41,8 @@ pub fn put_filled(filled: Filled, out: &mut [u64; 4])
 // Where an instruction stands: refused, line, 0, first byte of the part, its length in bytes. Only crates of this repository call this function: it
 // asks that the part ends where a number of 64 bits can say.
 pub fn put_place(place: Place, out: &mut [u64; 5])
-    requires { (partNumbers place).from + (partNumbers place).bytes < 2 ^ 64 }
-    ensures { out.new ≡ rowsList (partNumbers place) }
+    requires { (part_numbers place).from + (part_numbers place).bytes < 2 ^ 64 }
+    ensures { out.new ≡ rows_list (part_numbers place) }
 {
     match place {
         Place::At { first, rows } => *out = [
@@ -58,7 +58,7 @@ pub fn put_place(place: Place, out: &mut [u64; 5])
 
 // A claim: refused, line, 0, cn, then end 1 and end 2 by their first byte and two halves.
 pub fn put_claimed(claimed: Claimed, out: &mut [u64; 10])
-    ensures { out.new ≡ claimList (claimNumbers claimed) }
+    ensures { out.new ≡ claim_list (claim_numbers claimed) }
 {
     match claimed {
         Claimed::Is(c) => {
@@ -81,7 +81,7 @@ pub fn put_claimed(claimed: Claimed, out: &mut [u64; 10])
 
 // The last state of a context: refused, line, 0, mem, cost, looked.
 pub fn put_last(last: Last, out: &mut [u64; 6])
-    ensures { out.new ≡ lastList (lastNumbers last) }
+    ensures { out.new ≡ last_list (last_numbers last) }
 {
     match last {
         Last::Is(a) => *out = [
@@ -98,7 +98,7 @@ pub fn put_last(last: Last, out: &mut [u64; 6])
 
 // Where a walker starts: refused, line, 0, next row.
 pub fn put_start(start: Start, out: &mut [u64; 4])
-    ensures { out.new ≡ openList (startNumbers start) }
+    ensures { out.new ≡ open_list (start_numbers start) }
 {
     *out = [start.why.number, start.why.line, 0, start.next as u64];
 }
@@ -107,8 +107,8 @@ pub fn put_start(start: Start, out: &mut [u64; 4])
 // this repository call this function: it asks that the step does not go back, and that its part ends where a number of 64 bits can say.
 pub fn put_step(next: usize, after: usize, out: &mut [u64; 3])
     requires next_le_after { next ≤ after }
-    requires after_bound { (stepBetween next after).from + (stepBetween next after).bytes < 2 ^ 64 }
-    ensures { out.new ≡ stepList (stepBetween next after) }
+    requires after_bound { (step_between next after).from + (step_between next after).bytes < 2 ^ 64 }
+    ensures { out.new ≡ step_list (step_between next after) }
 {
     if after == next {
         *out = [0, 0, next as u64];
