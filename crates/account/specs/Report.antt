@@ -30,7 +30,7 @@ unfoldable pub lines_text : List Cycle → List ℕ
 lines_text [] = []
 lines_text (c ∷ cs) = line_text c.row ++ lines_text cs
 
--- The last line counts the instructions, the out_of_bounds ones and all rows written, the empty row too.
+-- The last line counts the instructions, the out-of-bounds ones and all rows written, the empty row too.
 abbrev pub total_text : (instructions oob rows : ℕ) → List ℕ
 total_text instructions oob rows =
     field (ascii "instructions=") instructions ++ field (ascii " oob=") oob ++ field (ascii " rows=") rows ++ ascii "\n"

@@ -178,12 +178,12 @@ fn put_report(input: &[u8], out: &mut [u8; REPORT_BYTES]) -> usize
 }
 
 // After a read that failed nothing is printed.
-fn main() {
+fn main(rt: HostRuntime) {
     let mut input = [0u8; INPUT_BYTES];
-    let Input::Bytes(n) = read_input(b"account", &mut input) else {
+    let Input::Bytes(n) = read_input(&rt, b"account", &mut input) else {
         return;
     };
     let mut lines = [0u8; REPORT_BYTES];
     let m = put_report(&input[..n], &mut lines);
-    write_output(b"account", &lines[..m]);
+    write_output(&rt, b"account", &lines[..m]);
 }

@@ -2,7 +2,7 @@
 // each file how many vectors it has and how many of them are wrong: none, or in a file of wrong answers all.
 #![tactic(auto)]
 
-ghost use Rattle.std.specs.Prelude.{◌≡◌, true, ◌+◌, ◌*◌, ◌≤◌, ◌<◌, length};
+ghost use Rattle.std.specs.Prelude.{◌≡◌, true, ◌+◌, ◌*◌, ◌≤◌, ◌<◌, length, IfOk};
 ghost use Rattle.std.proofs.lemmas.List.Edits.{sets};
 ghost use Rattle.number.specs.Cells.{encode, decode};
 ghost use Rattle.number.specs.Tests.{bit};
@@ -10,11 +10,16 @@ ghost use Rattle.ground.specs.Agree.{agrees, costs_agree, splits_agree, orders_a
 
 use cell::read::{u8_at, u24_at, u32_at, wide_at};
 use gas::{Bytes, Words};
-use libc::STDOUT_FILENO;
 use number::wide::{in_bounds, is_next, less, minus, minus_bound, push, same, small};
+use std::fs::File;
+use std::io::Read;
+use std::{fs, io};
 
 // The bytes that a vector stands in.
 const VECTOR_BYTES: usize = 64;
+
+// The most bytes of a file that are read.
+const FILE_BYTES: usize = 65536;
 
 // What the vectors of a file are about.
 #[derive(Clone, Copy)]
@@ -151,67 +156,80 @@ fn tallied(kind: Kind, t: &[u8]) -> Tally
 }
 
 // Prints a number behind its key.
-fn put(key: &[u8], n: u64) {
-    io::write_all(STDOUT_FILENO, key);
-    io::print_decimal(STDOUT_FILENO, n);
+fn put(rt: &HostRuntime, key: &str, n: u64) -> io::Result<()> {
+    print!(rt; "{key}{n}")
 }
 
-fn end_line() {
-    io::write_all(STDOUT_FILENO, b"\n");
+fn end_line(rt: &HostRuntime) -> io::Result<()> {
+    println!(rt; "")
 }
 
 // Prints the words and the cost of an end.
-fn show_cost(end: Bytes) {
+fn show_cost(rt: &HostRuntime, end: Bytes) -> io::Result<()> {
     let a = gas::words_of(end);
     let c = gas::cost_of(a);
-    put(b"end=", end.0 as u64);
-    put(b" words=", a.0 as u64);
-    put(b" cost=", c.0);
-    end_line();
+    put(rt, "end=", end.0 as u64)?;
+    put(rt, " words=", a.0 as u64)?;
+    put(rt, " cost=", c.0)?;
+    end_line(rt)
 }
 
 // Prints a line for each vector of a file of costs.
-fn show_costs(t: &[u8]) {
+fn show_costs(rt: &HostRuntime, t: &[u8]) -> io::Result<()> {
     let n = t.len() / VECTOR_BYTES;
     let mut k: usize = 0;
     while k < n {
-        show_cost(Bytes(u32_at(t, k * VECTOR_BYTES)));
+        show_cost(rt, Bytes(u32_at(t, k * VECTOR_BYTES)))?;
         k += 1;
     }
+    Ok(())
 }
 
-// Prints the tally of a file.
-fn run(path: &[u8], kind: Kind, show: bool) {
-    let fd = os::open_read(path);
-    if fd < 0 {
-        os::fail(path);
-        return;
+// Reads the file until buf is full or the file ends, and answers how many bytes stand at the start of buf.
+fn read_full(file: &mut File, buf: &mut [u8]) -> io::Result<usize>
+    ensures { IfOk result (λ n. n ≤ length buf.new) }
+{
+    let mut done: usize = 0;
+    while done < buf.len() {
+        let n = file.read(&mut buf[done..])?;
+        if n == 0 {
+            return Ok(done);
+        }
+        done += n;
     }
-    let mut buffer = io::large_buffer();
-    let n = io::read_full(fd, &mut buffer);
-    libc::close(fd);
+    Ok(done)
+}
+
+// Prints the tally of a file, and says so if it cannot be opened.
+fn run(rt: &HostRuntime, path: &str, kind: Kind, show: bool) -> io::Result<()> {
+    let mut file = match fs::open(rt, path) {
+        Ok(file) => file,
+        Err(e) => return eprintln!(rt; "{path}: {e}"),
+    };
+    let mut buffer = [0u8; FILE_BYTES];
+    let n = read_full(&mut file, &mut buffer)?;
     let t = &buffer[..n];
     if show {
-        show_costs(t);
+        show_costs(rt, t)?;
     }
     let r = tallied(kind, t);
-    io::write_all(STDOUT_FILENO, path);
-    put(b" vectors=", r.vectors as u64);
-    put(b" wrong=", r.wrong as u64);
-    end_line();
+    print!(rt; "{path}")?;
+    put(rt, " vectors=", r.vectors as u64)?;
+    put(rt, " wrong=", r.wrong as u64)?;
+    end_line(rt)
 }
 
-fn main() {
-    run(b"costs.bin", Kind::Costs, true);
-    run(b"costs_wrong.bin", Kind::Costs, false);
-    run(b"splits.bin", Kind::Splits, false);
-    run(b"splits_wrong.bin", Kind::Splits, false);
-    run(b"orders.bin", Kind::Orders, false);
-    run(b"orders_wrong.bin", Kind::Orders, false);
-    run(b"steps.bin", Kind::Steps, false);
-    run(b"steps_wrong.bin", Kind::Steps, false);
-    run(b"differences.bin", Kind::Differences, false);
-    run(b"differences_wrong.bin", Kind::Differences, false);
-    run(b"cells.bin", Kind::Cells, false);
-    run(b"cells_wrong.bin", Kind::Cells, false);
+fn main(rt: HostRuntime) -> io::Result<()> {
+    run(&rt, "costs.bin", Kind::Costs, true)?;
+    run(&rt, "costs_wrong.bin", Kind::Costs, false)?;
+    run(&rt, "splits.bin", Kind::Splits, false)?;
+    run(&rt, "splits_wrong.bin", Kind::Splits, false)?;
+    run(&rt, "orders.bin", Kind::Orders, false)?;
+    run(&rt, "orders_wrong.bin", Kind::Orders, false)?;
+    run(&rt, "steps.bin", Kind::Steps, false)?;
+    run(&rt, "steps_wrong.bin", Kind::Steps, false)?;
+    run(&rt, "differences.bin", Kind::Differences, false)?;
+    run(&rt, "differences_wrong.bin", Kind::Differences, false)?;
+    run(&rt, "cells.bin", Kind::Cells, false)?;
+    run(&rt, "cells_wrong.bin", Kind::Cells, false)
 }

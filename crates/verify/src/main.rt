@@ -57,12 +57,12 @@ fn put_report(input: &[u8], out: &mut [u8; LINE_BYTES]) -> usize
 }
 
 // After a read that failed nothing is printed.
-fn main() {
+fn main(rt: HostRuntime) {
     let mut input = [0u8; INPUT_BYTES];
-    let Input::Bytes(n) = read_input(b"verify", &mut input) else {
+    let Input::Bytes(n) = read_input(&rt, b"verify", &mut input) else {
         return;
     };
     let mut line = [0u8; LINE_BYTES];
     let m = put_report(&input[..n], &mut line);
-    write_output(b"verify", &line[..m]);
+    write_output(&rt, b"verify", &line[..m]);
 }
