@@ -8,7 +8,8 @@ cd "$room"
 "$root/bin/ground" > out
 cmp out "$root/crates/ground/stdout"
 
-"$root/target/bin/ground" > none 2> said
+program=$("$root/tools/built" ground)
+"$program" > none 2> said
 [ ! -s none ]
 [ "$(grep -c . said)" -eq 12 ]
 echo "bin/ground prints the kept answers"

@@ -6,11 +6,13 @@ name=promises
 source "$(dirname "${BASH_SOURCE[0]}")/lib/room.bash"
 cd "$root"
 
-# The public functions, as crate::module::function. Those of a program are left out: no other crate can name them.
+# The public functions, as crate::module::function. Those of a program or a static library are left out: no other crate can name them.
 public() {
-    local file path
+    local file path crate
     for file in crates/*/src/*.rt; do
         [ ! -e "$(dirname "$file")/main.rt" ] || continue
+        crate=$(cut -d / -f 2 <<< "$file")
+        ! grep -q "^$crate staticlib" crates.txt || continue
         path=$(sed 's|^crates/||; s|/src/lib\.rt$||; s|/src/|::|; s|\.rt$||' <<< "$file")
         sed -nE "s/^ *pub (extern \"C\" )?fn ([a-z0-9_]+).*/$path::\2/p" "$file"
     done
@@ -27,7 +29,7 @@ promised() {
             esac
             path=${path%.Reads}
             ! grep -qF -e "$said" "$file" || printf '%s::%s\n' "$crate" "${path//./::}"
-        done < <(sed -nE 's/^use Rattle·([a-z_]+)\.proofs\.([A-Za-z0-9_.]+) as ([a-z0-9-]+)$/\1 \2 \3/p' "$file")
+        done < <(sed -nE 's/^use Rattle\.([a-z_]+)\.(proofs|specs\.contracts)\.([A-Za-z0-9_.]+) as ([^ ]+)$/\1 \3 \4/p' "$file")
     done
 }
 

@@ -8,8 +8,8 @@ library=$MXP_LIB_DIR/libmxp.a
 # Runs a command with its output kept in log, to be shown only if the command fails.
 quietly() { "$@" > "$room/log" 2>&1 || { cat "$room/log" >&2; fail "failed: $*"; }; }
 
-# Proves and builds the library where it is not there.
-build_library() { [ -f "$library" ] || (cd "$root" && quietly rt staticlib mxp); }
+# Proves and builds the library where that has not been done yet.
+build_library() { quietly "$root/tools/built" libmxp.a; }
 
 cargo_in_rust() { (cd "$root/rust" && cargo "$@" --quiet --release --offline --locked); }
 

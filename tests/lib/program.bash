@@ -1,10 +1,8 @@
 # What the tests of a program share: it is run on its vectors and on other inputs, and what it prints is compared. To be sourced under `set -euo
 # pipefail`, with `name` set to the program's name. Document 01 says nothing of a program's exit status; only one of a time-out or a crash is a failure.
 source "$(dirname "${BASH_SOURCE[0]}")/room.bash"
-program=$root/target/bin/$name
+program=$("$root/tools/built" "$name") || fail "the program is not built"
 vectors=$root/data/$name
-
-[ -x "$program" ] || fail "$program is not built"
 
 # Runs the program on standard input, with what it prints in out and its complaints in said.
 run() {

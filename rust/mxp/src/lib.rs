@@ -8,7 +8,7 @@
 //! # Linking
 //!
 //! Cargo links the library from the folder that the environment variable `MXP_LIB_DIR` names by its absolute path. In
-//! the stage's repository that is `target/staticlib`, where `rt staticlib mxp` puts it.
+//! the stage's repository that is `target/staticlib`, where `tools/built libmxp.a` puts it.
 //!
 //! # An example
 //!
