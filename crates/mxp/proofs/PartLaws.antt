@@ -17,7 +17,7 @@ use Rattle.trace.proofs.PlaceLaws.{told_stands}
 use Rattle.walker.specs.Walk.{step_numbers}
 use Rattle.walker.proofs.NumberLaws.{numbers_stay, numbers_move, moved_inside}
 use Rattle.out.specs.Out.{step_between}
-use Rattle.out.proofs.OutLaws.{between_stays, between-moves}
+use Rattle.out.proofs.OutLaws.{between_stays, between_moves}
 
 -- the part of an instruction ends inside the trace; on a refusal it is 0 and 0
 pub part_inside : (l : List ℕ) → AllBytes l → (k : ℕ) (p : Place) → p ≡ told_place (where_is l k)
@@ -32,7 +32,7 @@ module _ (l : List ℕ) (i m : ℕ) (goes : m ≡ (step l i).next) where
     where
       by : Dec (m ≡ i) → step_between i m ≡ step_numbers i (step l i)
       by (yes e) = between_stays i m e ∙ sym (numbers_stay l i m goes e)
-      by (no on) = between-moves i m on ∙ sym (numbers_move l i m goes on)
+      by (no on) = between_moves i m on ∙ sym (numbers_move l i m goes on)
 
   -- and they end inside the trace; of an empty part 0 and 0
   pub between_inside : (step_between i m).from + (step_between i m).bytes ≤ length l
