@@ -1,7 +1,7 @@
 -- No second answer, and no second buffer, meets the contracts of `cell`.
 use mathlib.Core.Path.{refl}
 use Rattle.number.specs.Whole.{val}
-use Rattle.promises.proofs.NoSecond.{NoSecond, equation, given, ref, answer, by, first}
+use Rattle.promises.proofs.NoSecond.{NoSecond, equation, given, ref, shared, answer, by, first}
 use Rattle.cell.proofs.read.low64_at.Reads as low64-at
 use Rattle.cell.proofs.read.u8_at.Reads as u8-at
 use Rattle.cell.proofs.read.u16_at.Reads as u16-at
@@ -23,28 +23,28 @@ use Rattle.cell.proofs.write.put_u64.Reads as put-u64
 use Rattle.cell.proofs.write.put_wide.Reads as put-wide
 
 -- what is read
-pub one_low64_at : NoSecond low64-at.Post (ref given) answer
+pub one_low64_at : NoSecond low64-at.Post (shared given) answer
 one_low64_at = equation (λ a b. refl)
 
-pub one_u8_at : NoSecond u8-at.Post (ref given) answer
+pub one_u8_at : NoSecond u8-at.Post (shared given) answer
 one_u8_at = equation (λ a b. refl)
 
-pub one_u16_at : NoSecond u16-at.Post (ref given) answer
+pub one_u16_at : NoSecond u16-at.Post (shared given) answer
 one_u16_at = equation (λ a b. refl)
 
-pub one_u24_at : NoSecond u24-at.Post (ref given) answer
+pub one_u24_at : NoSecond u24-at.Post (shared given) answer
 one_u24_at = equation (λ a b. refl)
 
-pub one_u32_at : NoSecond u32-at.Post (ref given) answer
+pub one_u32_at : NoSecond u32-at.Post (shared given) answer
 one_u32_at = equation (λ a b. refl)
 
-pub one_u48_at : NoSecond u48-at.Post (ref given) answer
+pub one_u48_at : NoSecond u48-at.Post (shared given) answer
 one_u48_at = equation (λ a b. refl)
 
-pub one_u64_at : NoSecond u64-at.Post (ref given) answer
+pub one_u64_at : NoSecond u64-at.Post (shared given) answer
 one_u64_at = equation (λ a b. refl)
 
-pub one_wide_at : NoSecond wide_at.Post (ref given) (by val)
+pub one_wide_at : NoSecond wide_at.Post (shared given) (by val)
 one_wide_at = equation (λ a b. refl)
 
 -- what stands side by side

@@ -1,7 +1,7 @@
 -- No second answer meets the contract of `checker`.
 use mathlib.Core.Path.{refl}
-use Rattle.promises.proofs.NoSecond.{NoSecond, equation, ref, given, answer}
+use Rattle.promises.proofs.NoSecond.{NoSecond, equation, shared, given, answer}
 use Rattle.checker.proofs.check.Reads as check
 
-pub one_check : NoSecond check.Post (ref given) answer
+pub one_check : NoSecond check.Post (shared given) answer
 one_check = equation (λ a b. refl)

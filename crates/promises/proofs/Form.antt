@@ -4,7 +4,7 @@ use Rattle.form.specs.Plain.{matched, number}
 use Rattle.form.specs.Read.{Read, got, stop}
 use Rattle.form.specs.declared.Matched.{Matched}
 use Rattle.form.specs.declared.Matched.TheVariants.{To, Stop}
-use Rattle.promises.proofs.NoSecond.{NoSecond, no_second, equation, given, ref, answer, by}
+use Rattle.promises.proofs.NoSecond.{NoSecond, no_second, equation, given, shared, answer, by}
 use Rattle.form.proofs.digit_table.Reads as digit-table
 use Rattle.form.proofs.read_name.Reads as read_name
 use Rattle.form.proofs.read_number.Reads as read_number
@@ -24,11 +24,11 @@ pub one_digit_table : NoSecond digit-table.Post given answer
 one_digit_table = equation (λ a b. refl)
 
 -- names and numbers that are read
-pub one_read_name : NoSecond read_name.Post (ref given) answer
+pub one_read_name : NoSecond read_name.Post (shared given) answer
 one_read_name = no_second _ (λ κ a v e p. sym (again v) ∙ ap code_matched p) (λ a b. refl)
 
-pub one_read_number : NoSecond read_number.Post (ref (ref given)) (by number)
+pub one_read_number : NoSecond read_number.Post (shared (shared given)) (by number)
 one_read_number = equation (λ a b. refl)
 
-pub one_read_pair : NoSecond read-pair.Post (ref (ref given)) (by number)
+pub one_read_pair : NoSecond read-pair.Post (shared (shared given)) (by number)
 one_read_pair = equation (λ a b. refl)

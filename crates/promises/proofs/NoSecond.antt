@@ -1,5 +1,6 @@
 -- What "no second answer fits" says of a contract, and the laws by which it holds of each that is made of equations.
 use mathlib.Core.Path.{◌≡◌, sym, ◌∙◌, ap}
+use denote.Bor.{Bor}
 use denote.Ref.{MutBor, at_last}
 
 -- ---- what a call sees of its parameters
@@ -22,6 +23,10 @@ module _ {X B I : Type 0} (rest : Sight B I) where
   -- a reference, then the rest
   abbrev pub ref : Sight (MutBor X × B) (X × I)
   ref = record { seen = λ a. (a.0.now, rest.seen a.1); put = λ a i. (at_last a.0 i.0, rest.put a.1 i.1) }
+
+  -- a shared reference, then the rest
+  abbrev pub shared : Sight (Bor X × B) (X × I)
+  shared = record { seen = λ a. (a.0.now, rest.seen a.1); put = λ a i. (record a.0 { now = i.0 }, rest.put a.1 i.1) }
 
   -- a reference to what is lent for the answer alone: what it held before is not seen
   abbrev pub unseen : Sight (MutBor X × B) I

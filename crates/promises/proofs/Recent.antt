@@ -4,7 +4,7 @@ use Rattle.recent.specs.Notes.{no_span}
 use Rattle.recent.specs.Notes as notes
 use Rattle.recent.specs.declared.Span.{Span}
 use Rattle.promises.proofs.State.{code_context, code_state}
-use Rattle.promises.proofs.NoSecond.{NoSecond, no_second, equation, given, ref, answer, first}
+use Rattle.promises.proofs.NoSecond.{NoSecond, no_second, equation, given, ref, shared, answer, first}
 use Rattle.recent.proofs.no_span.Reads as no_span
 use Rattle.recent.proofs.widened.Reads as widened
 use Rattle.recent.proofs.note.Reads as note
@@ -25,5 +25,5 @@ one_widened = no_second _ (λ κ a v e p. ap code_span p) (λ a b. refl)
 pub one_note : NoSecond note.Post (ref given) first
 one_note = equation (λ a b. refl)
 
-pub one_recall : NoSecond recall.Post (ref (ref given)) answer
+pub one_recall : NoSecond recall.Post (shared (shared given)) answer
 one_recall = no_second _ (λ κ a v e p. ap code_state p) (λ a b. refl)

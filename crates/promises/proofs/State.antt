@@ -4,7 +4,7 @@ use Rattle.model.specs.State as model
 use Rattle.state.specs.declared.Context.{Context}
 use Rattle.state.specs.declared.State.{State}
 use Rattle.state.specs.Plain.{told_looked}
-use Rattle.promises.proofs.NoSecond.{NoSecond, no_second, equation, given, ref, answer}
+use Rattle.promises.proofs.NoSecond.{NoSecond, no_second, equation, given, shared, answer}
 use Rattle.state.proofs.same_context.Reads as same_context_lem
 use Rattle.state.proofs.is_lower.Reads as is-lower
 use Rattle.state.proofs.start_state.Reads as start-state
@@ -34,23 +34,23 @@ pub one_start_state : NoSecond start-state.Post given answer
 one_start_state = no_second (λ a. code_state model.start) (λ κ a v e p. ap code_state p) (λ a b. refl)
 
 -- what is found in the rows of a trace
-pub one_cycle_rows_at : NoSecond cycle-rows-at.Post (ref given) answer
+pub one_cycle_rows_at : NoSecond cycle-rows-at.Post (shared given) answer
 one_cycle_rows_at = equation (λ a b. refl)
 
-pub one_context_at : NoSecond context-at.Post (ref given) answer
+pub one_context_at : NoSecond context-at.Post (shared given) answer
 one_context_at = no_second _ (λ κ a v e p. ap code_context p) (λ a b. refl)
 
-pub one_has_context : NoSecond has-context.Post (ref given) answer
+pub one_has_context : NoSecond has-context.Post (shared given) answer
 one_has_context = equation (λ a b. refl)
 
-pub one_state_at : NoSecond state-at.Post (ref given) answer
+pub one_state_at : NoSecond state-at.Post (shared given) answer
 one_state_at = no_second _ (λ κ a v e p. ap code_state p) (λ a b. refl)
 
-pub one_search_back : NoSecond search-back.Post (ref given) answer
+pub one_search_back : NoSecond search-back.Post (shared given) answer
 one_search_back = equation (λ a b. refl)
 
-pub one_state_found : NoSecond state-found.Post (ref given) answer
+pub one_state_found : NoSecond state-found.Post (shared given) answer
 one_state_found = no_second _ (λ κ a v e p. ap code_state p) (λ a b. refl)
 
-pub one_state_before : NoSecond state-before.Post (ref given) answer
+pub one_state_before : NoSecond state-before.Post (shared given) answer
 one_state_before = no_second _ (λ κ a v e p. ap told_looked p) (λ a b. refl)

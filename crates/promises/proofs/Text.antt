@@ -2,20 +2,20 @@
 use mathlib.Core.Path.{refl, sym, subst}
 use Rattle.text.specs.Line.{Front, refused_line}
 use Rattle.text.proofs.PutLaws.{front_one}
-use Rattle.promises.proofs.NoSecond.{NoSecond, no_second, given, value, ref, answer, first, both}
+use Rattle.promises.proofs.NoSecond.{NoSecond, no_second, given, value, ref, shared, answer, first, both}
 use Rattle.text.proofs.put_bytes.Reads as put-bytes
 use Rattle.text.proofs.put_decimal.Reads as put-decimal
 use Rattle.text.proofs.put_field.Reads as put-field
 use Rattle.text.proofs.put_refusal.Reads as put-refusal
 
 -- bytes and numbers that are put from a place on
-pub one_put_bytes : NoSecond put-bytes.Post (ref (value (ref given))) (both answer first)
+pub one_put_bytes : NoSecond put-bytes.Post (ref (value (shared given))) (both answer first)
 one_put_bytes = no_second _ (λ κ a v e p. λ i. (p.after i, p.stored i)) (λ a b. refl)
 
 pub one_put_decimal : NoSecond put-decimal.Post (ref given) (both answer first)
 one_put_decimal = no_second _ (λ κ a v e p. λ i. (p.0.after i, p.0.stored i)) (λ a b. refl)
 
-pub one_put_field : NoSecond put-field.Post (ref (value (ref given))) (both answer first)
+pub one_put_field : NoSecond put-field.Post (ref (value (shared given))) (both answer first)
 one_put_field = no_second _ (λ κ a v e p. λ i. (p.0.after i, p.0.stored i)) (λ a b. refl)
 
 -- the line of a refusal, with which the buffer begins
