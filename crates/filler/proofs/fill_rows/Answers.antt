@@ -32,13 +32,17 @@ put_empty-requires c = omega arith
 pub read_lines-requires : goal.read_lines-requires
 read_lines-requires c =
     let a = c.args in
-    let rows = c.requires.rows_value in record { list_len_bound = c.requires.list_len_bound; first_le_max_rows = omega (arith, rows); writable = λ e. record {
-          lists = c.requires.lists;
-          some = c.requires.empty_nonzero;
-          empty = empty_stored a.buf.now a.empty (omega arith) c.put_empty.ensures;
-          few = omega (arith, rows);
-          room = omega (arith, rows);
-        } }
+    let rows = c.requires.rows_value in record {
+      list_len_bound = c.requires.list_len_bound;
+      first_le_max_rows = omega (arith, rows);
+      writable = λ e. record {
+        lists = c.requires.lists;
+        some = c.requires.empty_nonzero;
+        empty = empty_stored a.buf.now a.empty (omega arith) c.put_empty.ensures;
+        few = omega (arith, rows);
+        room = omega (arith, rows);
+      };
+    }
 
 pub returns : goal.returns
 returns c =

@@ -18,7 +18,7 @@ pub returns-then-stopped_short : goal.returns-then-stopped_short
 returns-then-stopped_short c =
     -- the search may look at the lower of the limit and the number of cycles
     let lower : c.if-limit-cycles.most ≡ min c.args.limit c.args.cycles =
-        elim c.if-limit-cycles.branch [ then-limit-cycles w ↦ omega arith | else-limit-cycles w ↦ omega arith ] in
+    elim c.if-limit-cycles.branch [ then-limit-cycles w ↦ omega arith | else-limit-cycles w ↦ omega arith ] in
     ap Refused c.limit_too_low.ensures
     ∙ ap told_last (sym (refused_short _ c.requires.accepted _ _ c.requires.cycles_value _ _ lower _ c.search_back-s.ensures
     (sym c.stopped_short.ensures ∙ c.if-stopped_short.true)))
@@ -32,7 +32,7 @@ pub returns : goal.returns
 returns c =
     -- the search may look at the lower of the limit and the number of cycles
     let lower : c.if-limit-cycles.most ≡ min c.args.limit c.args.cycles =
-        elim c.if-limit-cycles.branch [ then-limit-cycles w ↦ omega arith | else-limit-cycles w ↦ omega arith ] in
+    elim c.if-limit-cycles.branch [ then-limit-cycles w ↦ omega arith | else-limit-cycles w ↦ omega arith ] in
     ap (λ (w : State). Is (told_looked (record { state = w; cycles = c.search_back-s.result.count }))) c.state_found-state.ensures
     ∙ ap told_last (sym (given-whole _ c.requires.accepted _ _ c.requires.cycles_value _ _ lower _ c.search_back-s.ensures
     (sym c.stopped_short.ensures ∙ c.if-stopped_short.false)))

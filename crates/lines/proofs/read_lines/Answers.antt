@@ -50,7 +50,7 @@ overflow_add-row c =
     let l = c.loop-why in
     -- the line that was read is counted
     let more : More c.args.list.now l.at l.done (l.row - c.args.first) c.in-One.next c.rows_of-row.result =
-        counted_next l.invariant.counted _ _ _ (sym c.next_line-line.ensures ∙ c.in-One.is) c.claim_of-c.ensures c.rows_of-row.ensures in
+    counted_next l.invariant.counted _ _ _ (sym c.next_line-line.ensures ∙ c.in-One.is) c.claim_of-c.ensures c.rows_of-row.ensures in
     let k = l.invariant.counted in
     omega (arith, more.small, k.few, k.reached.ahead, k.reached.inside, c.loop-why.invariant.ahead, c.requires.list_len_bound, c.requires.first_le_max_rows)
 
@@ -64,7 +64,7 @@ loop-why-smaller c =
     let l = c.loop-why in
     -- the line that was read is counted
     let more : More c.args.list.now l.at l.done (l.row - c.args.first) c.in-One.next c.rows_of-row.result =
-        counted_next l.invariant.counted _ _ _ (sym c.next_line-line.ensures ∙ c.in-One.is) c.claim_of-c.ensures c.rows_of-row.ensures in
+    counted_next l.invariant.counted _ _ _ (sym c.next_line-line.ensures ∙ c.in-One.is) c.claim_of-c.ensures c.rows_of-row.ensures in
     omega (arith, more.further, more.counted.reached.inside)
 
 pub loop-why-preserved : goal.loop-why-preserved
@@ -79,7 +79,7 @@ loop-why-preserved c =
     } in
     -- the line that was read is counted
     let more : More c.args.list.now l.at l.done (l.row - c.args.first) c.in-One.next c.rows_of-row.result =
-        counted_next l.invariant.counted _ _ _ (sym c.next_line-line.ensures ∙ c.in-One.is) c.claim_of-c.ensures c.rows_of-row.ensures in
+    counted_next l.invariant.counted _ _ _ (sym c.next_line-line.ensures ∙ c.in-One.is) c.claim_of-c.ensures c.rows_of-row.ensures in
     passing_next l.invariant more
     (λ e. elim c.if-writes.branch [ then-writes w ↦ filling_next (turn e) c.rows_of-row.ensures (w.buf-is ∙ w.put_claim.ensures.buf_after) (w.notes-is ∙ w.put_claim.ensures.notes_after) c.widened-span.ensures | else-writes w ↦ absurd (false≢true (sym w.if-writes.false ∙ e)) ])
     (λ e. elim c.if-writes.branch [ then-writes w ↦ absurd (false≢true (sym e ∙ w.if-writes.true)) | else-writes w ↦ w.buf-is ])

@@ -15,7 +15,7 @@ pub returns-in-With : goal.returns-in-With
 unfolding start_of next_row
 returns-in-With c =
     let (accepted, counted) =
-        accepted_if_admitted c.args.t.now (λ i h. omega (arith, c.shared_slice_known-1.given i)) (sym c.admit-admitted.ensures ∙ c.in-With.is) in
+    accepted_if_admitted c.args.t.now (λ i h. omega (arith, c.shared_slice_known-1.given i)) (sym c.admit-admitted.ensures ∙ c.in-With.is) in
     rw (c.no_refusal.ensures, accepted.verdict, ← empty_told _ counted)
 
 pub returns-in-Refused : goal.returns-in-Refused

@@ -21,7 +21,7 @@ pub returns-then-k-ne0 : goal.returns-then-k-ne0
 returns-then-k-ne0 c =
     let l = c.loop-i in
     let here : c.named_constraint-k.result ≡ broken_at (row_at c.args.t.now) c.args.n l.i =
-        c.named_constraint-k.ensures ∙ rw l.invariant.2 (broken_is _ _ _ l.invariant.1) in
+    c.named_constraint-k.ensures ∙ rw l.invariant.2 (broken_is _ _ _ l.invariant.1) in
     told_broken _ _ l.i _ c.loop-i-test.true l.invariant.1 here (omega arith)
 
 pub count_row-c-requires : goal.count_row-c-requires
@@ -34,7 +34,7 @@ pub loop-i-preserved : goal.loop-i-preserved
 loop-i-preserved c =
     let l = c.loop-i in
     let here : c.named_constraint-k.result ≡ broken_at (row_at c.args.t.now) c.args.n l.i =
-        c.named_constraint-k.ensures ∙ rw l.invariant.2 (broken_is _ _ _ l.invariant.1) in
+    c.named_constraint-k.ensures ∙ rw l.invariant.2 (broken_is _ _ _ l.invariant.1) in
     let row = c.read_row-x.ensures in
     let zero : c.named_constraint-k.result ≡ 0 = omega arith in (
       omega arith,
