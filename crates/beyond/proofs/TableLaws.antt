@@ -14,7 +14,7 @@ use Rattle.model.proofs.TableOf.{length-table, table_snoc}
 use Rattle.row.proofs.RowLaws.{written, write_next}
 use Rattle.compare.proofs.SameLaws.{row_by}
 
--- the cycle of a claim is the table of its in-bounds rows or of its out_of_bounds rows, by whether it is in bounds
+-- the cycle of a claim is the table of its in-bounds rows or of its out-of-bounds rows, by whether it is in bounds
 pub cycle_of_lem : (stamp : ℕ) (s : State) (c : Claim) (b : Bool) → in_bounds c ≡ b → cycle_of stamp s c ≡ table (suc (pick b in_last out_last)) (row_by stamp s c b)
 unfolding cycle_of last_of row_of
 cycle_of_lem stamp s c b e = ap {B = List Cells} (λ (t : Bool). table (suc (pick t in_last out_last)) (row_by stamp s c t)) e

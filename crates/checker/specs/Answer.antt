@@ -23,7 +23,7 @@ pub record Numbers : Type 0 where
   pub row : ℕ
   pub constraint : ℕ
 
--- The checker answers accepted with counts of instructions, out_of_bounds ones and empty rows, or row (from 0) and constraint; the fields of the
+-- The checker answers accepted with counts of instructions, out-of-bounds ones and empty rows, or row (from 0) and constraint; the fields of the
 -- other case are 0. On a refusal all other result fields are 0.
 abbrev pub numbers : Verdict → Numbers
 numbers (Accepted c) = record {

@@ -90,7 +90,7 @@ abbrev pub row_by : (stamp : ℕ) → State → Claim → Bool → ℕ → Cells
 row_by stamp s c b j = pick b (in_row (is_at_least c) (is_grown s (top c)) stamp s c j) (out_row stamp s c j)
 
 module _ (r : ℕ → Cells) (i stamp : ℕ) (s : State) (c : Claim) where
-  -- the cycle stands where its in-bounds rows or its out_of_bounds rows do, by the same
+  -- the cycle stands where its in-bounds rows or its out-of-bounds rows do, by the same
   pub stands_by : (b : Bool) → in_bounds c ≡ b → rows_stand r i (row_by stamp s c b) (suc (pick b in_last out_last)) ≡ cycle_stands r i stamp s c
   unfolding cycle_stands last_of row_of
   stands_by b e = ap (λ (t : Bool). rows_stand r i (row_by stamp s c t) (suc (pick t in_last out_last))) (sym e)

@@ -152,7 +152,7 @@ module _ (stamp : ℕ) (done : List Claim) (c : Claim) (i : ℕ) where
         gas = omega (arith, row.gas, before, cost, paid_more more);
       }
 
-  -- an out_of_bounds claim reaches nothing more and costs 0
+  -- an out-of-bounds claim reaches nothing more and costs 0
   pub out_adds_nothing : in_bounds c ≡ false
       → (reached c.context (done ++ (c ∷ [])) ≡ reached c.context done) × ((row_after stamp done c i).gas ≡ 0)
   out_adds_nothing e =

@@ -1,4 +1,4 @@
--- The rows of an in_bounds cycle that meets the constraints are those of its claim.
+-- The rows of an in-bounds cycle that meets the constraints are those of its claim.
 use Prim.Native.Nat.{ℕ, zero, suc, ◌+◌, ◌*◌, ◌-◌, ◌/◌, ◌%◌, ◌^◌, ◌<◌, ◌≤◌, max}
 use mathlib.Core.Bool.{Bool, true, false}
 use mathlib.Core.Path.{◌≡◌, sym, ◌∙◌, ap}

@@ -163,7 +163,7 @@ module _ (l : List ℕ) (a : Accepted l) where
       pub marked : (row.ooob ≡ 1) ↔ ((bound ≤ c.end1) ⊎ (bound ≤ c.end2))
       marked = rw alone.mark (marks c)
 
-      -- an out_of_bounds instruction adds nothing and costs 0
+      -- an out-of-bounds instruction adds nothing and costs 0
       pub out_is_free : in_bounds c ≡ false → (row.memn ≡ reached c.context done) × (row.gas ≡ 0)
       out_is_free e =
           let free = out_adds_nothing (suc k) done c i e in

@@ -1,4 +1,4 @@
--- The rows of an out_of_bounds claim meet constraints 10, 24 and 25.
+-- The rows of an out-of-bounds claim meet constraints 10, 24 and 25.
 use Prim.Native.Nat.{ℕ, suc, ◌-◌, ◌≤◌}
 use mathlib.Core.Bool.{true, false}
 use mathlib.Core.Path.{◌≡◌, refl, ap}

@@ -1,4 +1,4 @@
--- The rows of an out_of_bounds cycle that meets the constraints are those of its claim.
+-- The rows of an out-of-bounds cycle that meets the constraints are those of its claim.
 use Prim.Native.Nat.{ℕ, ◌+◌, ◌-◌, ◌≤◌}
 use mathlib.Core.Bool.{Bool, true, false}
 use mathlib.Core.Path.{◌≡◌, refl, ◌∙◌}

@@ -50,13 +50,13 @@ unfoldable pub count : {A : Type 0} → (A → Bool) → List A → ℕ
 count f [] = 0
 count f (x ∷ xs) = pick (f x) (suc (count f xs)) (count f xs)
 
--- counts of instructions, out_of_bounds ones and empty rows
+-- counts of instructions, out-of-bounds ones and empty rows
 pub record Counts : Type 0 where
   pub instructions : ℕ
   pub oob : ℕ
   pub empty : ℕ
 
--- an out_of_bounds instruction is one whose OOOB is 1; an empty row, one whose STAMP is 0
+-- an out-of-bounds instruction is one whose OOOB is 1; an empty row, one whose STAMP is 0
 abbrev pub is_oob : Cycle → Bool
 is_oob c = eqb c.row.ooob 1
 

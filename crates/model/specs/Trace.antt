@@ -107,7 +107,7 @@ beyond_end c = pick (leb bound c.end1) c.end1 c.end2
 abbrev pub beyond_by : Claim → ℕ
 beyond_by c = beyond_end c - bound
 
--- row i of the cycle of an out_of_bounds claim: it carries the state on, and its ACC1 shows how far an end is beyond the bound
+-- row i of the cycle of an out-of-bounds claim: it carries the state on, and its ACC1 shows how far an end is beyond the bound
 unfoldable pub out_row : ℕ → State → Claim → ℕ → Cells
 out_row stamp s c i =
     let d : ℕ = beyond_by c in

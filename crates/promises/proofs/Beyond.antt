@@ -4,7 +4,7 @@ use Rattle.promises.proofs.NoSecond.{NoSecond, equation, ref, shared, given, ans
 use Rattle.beyond.proofs.put_beyond.Reads as put-beyond
 use Rattle.beyond.proofs.beyond_is.Reads as beyond-is
 
--- an out_of_bounds cycle, written and compared
+-- an out-of-bounds cycle, written and compared
 pub one_put_beyond : NoSecond put-beyond.Post (ref given) first
 one_put_beyond = equation (λ a b. refl)
 

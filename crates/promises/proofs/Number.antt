@@ -1,4 +1,4 @@
--- No second answer meets the contracts of `number`. Of a value of 17 bytes a contract may speak by `val`: nothing is lost by it, as `val-Injective`
+-- No second answer meets the contracts of `number`. Of a value of 17 bytes a contract may speak by `val`: nothing is lost by it, as `val_injective`
 -- of `number` says.
 use Prim.Native.Nat.{ℕ, ◌+◌, ◌*◌, ◌-◌, ◌^◌}
 use mathlib.Core.Path.{◌≡◌, refl}

@@ -14,7 +14,7 @@ use Rattle.row.specs.declared.cells.Row.{Row}
 use Rattle.row.proofs.PlaceLaws.{parts_make}
 use Rattle.beyond.proofs.row_of.Goals as goal
 
--- the tail of the empty row is that of an out_of_bounds row
+-- the tail of the empty row is that of an out-of-bounds row
 tail_empty : (stamp : ℕ) (s : State) (c : Claim) (i : ℕ) (x : Row) → plain x ≡ empty_row → TailOf (out_row stamp s c i) x.tail
 unfolding out_row
 tail_empty stamp s c i x e = record {

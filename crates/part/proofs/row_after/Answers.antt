@@ -10,7 +10,7 @@ use Rattle.model.specs.Cycles.{next_row}
 use Rattle.model.proofs.InstructionLaws.{next_after, next_inside, next_there}
 use Rattle.part.proofs.row_after.Goals as goal
 
--- the rows that are passed in a c end where the next instruction starts
+-- the rows that are passed in a turn end where the next instruction starts
 passes : (c : goal.After-cycle_rows_at-row)
     → next_row (rows_of c.args.t.now) (suc c.loop-i.i) ≡ c.loop-i.row + c.cycle_rows_at-row.result
 passes c =
