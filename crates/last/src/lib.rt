@@ -15,7 +15,7 @@ use state::Context;
 use state::look::{Found, Looked, search_back, state_found};
 use trace::admit::{Admitted, admit};
 
-// The last state of a context: document 01's numbers for each case are `lastNumbers` of specs/Last.antt.
+// The last state of a context: document 01's numbers for each case are `last_numbers` of specs/Last.antt.
 #[derive(Clone, Copy)]
 pub enum Last {
     // The state, and how many cycles were looked at for it.

@@ -12,7 +12,7 @@ use refusal::Refusal;
 
 pub mod line;
 
-// What stands in a list at a place. Document 01's numbers are `nextNumbers` of specs/Told.antt.
+// What stands in a list at a place. Document 01's numbers are `next_numbers` of specs/Told.antt.
 #[derive(Clone, Copy)]
 pub enum Next {
     // Nothing: the list ends.

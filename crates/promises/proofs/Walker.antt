@@ -63,5 +63,5 @@ pub one_open_walker : NoSecond OpenPost (shared given) (by opened)
 one_open_walker = equation (λ a b. refl)
 
 -- a step: the bytes that it gives, and the walker after it
-pub one-step : NoSecond StepPost walker (both (by (λ x. x.now)) (λ v e. walked e.0.now))
-one-step = no_second _ (λ κ a v e p. λ i. (p.gives i, ((p.keeps i).now, p.moves i))) (λ a b. refl)
+pub one_step : NoSecond StepPost walker (both (by (λ x. x.now)) (λ v e. walked e.0.now))
+one_step = no_second _ (λ κ a v e p. λ i. (p.gives i, ((p.keeps i).now, p.moves i))) (λ a b. refl)

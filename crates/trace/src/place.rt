@@ -9,7 +9,7 @@ use part::{is_among, row_after, rows_from};
 use refusal::Refusal;
 use state::look::cycle_rows_at;
 
-// Where an instruction stands: document 01's numbers for each case are `partNumbers` of specs/Told.antt.
+// Where an instruction stands: document 01's numbers for each case are `part_numbers` of specs/Told.antt.
 #[derive(Clone, Copy)]
 pub enum Place {
     // Its first row, and how many rows it has.
@@ -17,7 +17,7 @@ pub enum Place {
     Refused(Refusal),
 }
 
-// The claim of an instruction: document 01's numbers for each case are `claimNumbers` of specs/Told.antt.
+// The claim of an instruction: document 01's numbers for each case are `claim_numbers` of specs/Told.antt.
 #[derive(Clone, Copy)]
 pub enum Claimed {
     Is(Claim),

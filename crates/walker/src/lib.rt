@@ -29,7 +29,7 @@ pub struct Start {
     pub next: usize,
 }
 
-// Where a walker over these bytes starts. Document 01's numbers are `startNumbers` of specs/Walk.antt.
+// Where a walker over these bytes starts. Document 01's numbers are `start_numbers` of specs/Walk.antt.
 pub fn start_of(t: &[u8]) -> Start
     ensures { result ≡ told_start (start_of t.now) }
 {
