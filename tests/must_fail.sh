@@ -17,7 +17,7 @@ for edit in crates/*/must-fail/*.edit; do
         '') reason="was not tried" ;;
         *": refused, as it must be (only because a proof file names what the edit took away"*) reason="makes a proof name what is not there" ;;
         *"can be named from here"* | *"is not in scope"* | *"has no field"* | *"Parse"* | *"does not cover"*) reason="makes a proof name what is not there" ;;
-        *": refused, as it must be (only by a limit"*) reason="is refused by a limit of the prover alone" ;;
+        *": refused, as it must be (only by a limit"* | *"gave up at one of its limits"*) reason="is refused by a limit of the prover alone" ;;
         *": refused, as it must be: "*) continue ;;
         *) reason="is not refused in a proof" ;;
     esac

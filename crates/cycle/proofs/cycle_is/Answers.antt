@@ -15,3 +15,9 @@ pub beyond_is-requires : goal.beyond_is-requires
 beyond_is-requires c =
     let beyond = sym c.is_within.ensures ∙ c.if-is_within.false in
     record { row_bytes_in_bounds = rw (last_of_lem (plain_claim c.args.c) false beyond) at c.requires.row_bytes_in_bounds; sound = c.requires.sound; c_value = beyond }
+
+pub returns-then-is_within : goal.returns-then-is_within
+returns-then-is_within c = c.within_is.ensures
+
+pub returns-else-is_within : goal.returns-else-is_within
+returns-else-is_within c = c.beyond_is.ensures
