@@ -16,19 +16,17 @@ use Rattle.model.proofs.FitLaws.{trace_fits}
 use Rattle.model.proofs.ReadBack.{cycles_join}
 use Rattle.model.proofs.RowBytes.{AllFit, length_bytes, rows_first}
 use Rattle.model.proofs.TableOf.{table_snoc}
-use Rattle.refusal.specs.Refusals.{in_line, list_too_long}
+use Rattle.count.specs.declared.Counts.{Counts as Told}
+use Rattle.refusal.specs.Refusals.{in_line, list_too_long, number, line}
 use Rattle.refusal.specs.declared.Refusal.{Refusal}
 use Rattle.claim.specs.Claims.{claim_of}
 use Rattle.filler.specs.Answer.{told}
 use Rattle.filler.specs.Fill.{Outcome, written, refused, outcome, buffer_after}
-use Rattle.filler.specs.declared.Filled.{Filled}
-use Rattle.filler.specs.declared.Filled.TheVariants.{Rows, Refused}
+use Rattle.std.specs.Prelude.{Result, Ok, Err}
 use Rattle.filler.proofs.Theorems.{fill_writes}
-use Rattle.text.specs.Line.{Put, refused_line}
-use Rattle.text.proofs.PutLaws.{put_then}
+use Rattle.text.specs.Line.{refused_line}
 use Rattle.account.specs.Report.{line_text, lines_text, total_text, account_text, account_bytes, account_empty, room_rows, done, printed, report}
 use Rattle.account.specs.Room.{row_text, LinesPut}
-use Rattle.account.specs.declared.Lines.{Lines}
 
 -- the lines of joined cycles are those of each part
 lines_join : (cs ds : List Cycle) → lines_text (cs ++ ds) ≡ lines_text cs ++ lines_text ds
@@ -49,24 +47,24 @@ lines_next r i =
     rw (table_snoc i r, cycles_join 0 (table i r) (r i ∷ []), lines_join)
     (ap (λ (s : List ℕ). lines_text (cycles (table i r)) ++ s) (lines_one (starts (r i)) (record { first = 0 + length (table i r); row = r i })))
 
--- before the first row nothing is put
-pub put-none : (l : List ℕ) (r : ℕ → Cells) → Put l 0 (lines_text (cycles (table 0 r))) l 0
+-- before the first row there is no line
+pub put-none : (r : ℕ → Cells) → [] ≡ lines_text (cycles (table 0 r))
 unfolding table cycles_from lines_text
-put-none l r = record { stored = refl; after = refl }
+put-none r = refl
 
 -- what a row adds is put behind the lines of the rows before it
-pub put_next : {l m n : List ℕ} {j k : ℕ} (r : ℕ → Cells) (i : ℕ) (x : Cells) → x ≡ r i
-    → Put l 0 (lines_text (cycles (table i r))) m j → Put m j (row_text x) n k → Put l 0 (lines_text (cycles (table (i + 1) r))) n k
-put_next r i x e p q = rw (add-one i, lines_next r i, ← e) (put_then p q)
+pub put_next : {m n : List ℕ} (r : ℕ → Cells) (i : ℕ) (x : Cells) → x ≡ r i
+    → m ≡ lines_text (cycles (table i r)) → n ≡ m ++ row_text x → n ≡ lines_text (cycles (table (i + 1) r))
+put_next r i x e p q = rw (add-one i, lines_next r i, ← e, ← p) q
 
 -- the lines of rows, and behind them the last line with their counts, are all lines
-pub account_put : {l m n : List ℕ} {a : Lines} {k : ℕ} (rows : List Cells) (count : ℕ) → count ≡ length rows → LinesPut l rows m a
-    → Put m a.end (total_text a.counts.instructions a.counts.oob count) n k → Put l 0 (account_text rows) n k
+pub account_put : {m n : List ℕ} {a : Told} (rows : List Cells) (count : ℕ) → count ≡ length rows → LinesPut rows m a
+    → n ≡ m ++ total_text a.instructions a.oob count → n ≡ account_text rows
 unfolding account_text
 account_put rows count e p q =
     let instructions = ap (λ (c : Counts). c.instructions) p.counted in
     let oob = ap (λ (c : Counts). c.oob) p.counted in
-    put_then p.put (rw (e, instructions, oob) at q)
+    rw (e, instructions, oob, p.put) at q
 
 -- ---- what is done with the bytes read
 
@@ -86,13 +84,13 @@ pub record Accounted (l m : List ℕ) (n : ℕ) : Type 0 where
   pub rows : n ≤ room_rows
   pub text : account_text (table n (row_at m)) ≡ report l
 
-module _ {v : Filled} (l b : List ℕ) (e : v ≡ told (outcome l account_empty (length b)))
+module _ {v : Result ℕ Refusal} (l b : List ℕ) (e : v ≡ told (outcome l account_empty (length b)))
     (taken : length l ≤ account_bytes) (room : length b ≡ room_rows * row_bytes) where
   -- where the filler has written rows
-  pub written-report : {m : List ℕ} {n : ℕ} → v ≡ Rows n → m ≡ buffer_after (outcome l account_empty (length b)) b → Accounted l m n
+  pub written-report : {m : List ℕ} {n : ℕ} → v ≡ Ok n → m ≡ buffer_after (outcome l account_empty (length b)) b → Accounted l m n
   written-report {m} {n} f = by (outcome l account_empty (length b)) refl (sym e ∙ f)
     where
-      by : (o : Outcome) → outcome l account_empty (length b) ≡ o → told o ≡ Rows n → m ≡ buffer_after o b → Accounted l m n
+      by : (o : Outcome) → outcome l account_empty (length b) ≡ o → told o ≡ Ok n → m ≡ buffer_after o b → Accounted l m n
       by (refused k j) is h g = clash cc
       by (written rows) is h g =
           let w = fill_writes l account_empty b rows is in
@@ -108,10 +106,10 @@ module _ {v : Filled} (l b : List ℕ) (e : v ≡ told (outcome l account_empty 
           }
 
   -- where it refuses
-  pub refused_report : {r : Refusal} → v ≡ Refused r → refused_line r.number r.line ≡ report l
+  pub refused_report : {r : Refusal} → v ≡ Err r → refused_line (number r) (line r) ≡ report l
   refused_report f = rw (done-filled l taken, ← room) (by (outcome l account_empty (length b)) (sym e ∙ f))
     where
-      by : (o : Outcome) {r : Refusal} → told o ≡ Refused r → refused_line r.number r.line ≡ printed o
+      by : (o : Outcome) {r : Refusal} → told o ≡ Err r → refused_line (number r) (line r) ≡ printed o
       by (written rows) h = clash cc
       by (refused n k) {r} h =
           let same : r ≡ in_line n k = cc in

@@ -4,10 +4,9 @@ use Rattle.model.specs.Columns.{Cells}
 use Rattle.model.specs.Cycles.{starts, cycles, counts}
 use Rattle.model.specs.Tests.{pick}
 use Rattle.text.specs.Decimal.{max_digits}
-use Rattle.text.specs.Line.{Put}
 use Rattle.count.specs.Counts.{plain_counts}
 use Rattle.account.specs.Report.{line_text, lines_text, room_rows}
-use Rattle.account.specs.declared.Lines.{Lines}
+use Rattle.count.specs.declared.Counts.{Counts}
 
 -- the line of a row that starts a cycle, and nothing for any other
 abbrev pub row_text : Cells → List ℕ
@@ -30,8 +29,8 @@ max_total = 25 + 3 * max_digits
 abbrev pub max_report : ℕ
 max_report = room_rows * max_line + max_total
 
--- the lines of the instructions among the rows stand at the start of the buffer, and the rows are counted
-pub record LinesPut (old : List ℕ) (rows : List Cells) (new : List ℕ) (answer : Lines) : Type 0 where
-  pub put : Put old 0 (lines_text (cycles rows)) new answer.end
-  pub room : answer.end ≤ length rows * max_line
-  pub counted : plain_counts answer.counts ≡ counts rows
+-- the lines of the instructions among the rows stand on the page, within room for a line a row, and the rows are counted
+pub record LinesPut (rows : List Cells) (page : List ℕ) (answer : Counts) : Type 0 where
+  pub put : page ≡ lines_text (cycles rows)
+  pub room : length page ≤ length rows * max_line
+  pub counted : plain_counts answer ≡ counts rows

@@ -2,21 +2,21 @@
 // printed for the bytes read is promised by `put_report`; that it reads and writes them is tested.
 #![tactic(auto)]
 
-ghost use Rattle.std.specs.Prelude.{◌≡◌, ◌+◌, ◌*◌, ◌≤◌, length};
+ghost use Rattle.std.specs.Prelude.{◌≡◌, ◌+◌, ◌*◌, ◌≤◌, ◌++◌, length};
 ghost use Rattle.model.specs.Columns.{row_bytes, row_at, table};
 ghost use Rattle.row.specs.Plain.{plain};
-ghost use Rattle.text.specs.Line.{Put, Front};
 ghost use Rattle.account.specs.Report.{printed_size, mark_text, charge_text, line_text, total_text, account_text, room_rows, report};
 ghost use Rattle.account.specs.Room.{row_text, LinesPut, max_mark, max_charge, max_line, max_total, max_report};
 
-use console::{Input, read_input, write_output};
+use console::{read_input, write_output};
 use count::{Counts, count_row, starts_cycle};
-use filler::{Filled, fill};
+use filler::fill;
 use gas::{Bytes, Gas, Words, words_of};
 use model::ROW_BYTES;
+use refusal::Refusal;
 use row::cells::Row;
-use row::read::read_row;
-use text::{put_bytes, put_field};
+use row::view::RowBytes;
+use text::Page;
 
 // The most bytes of a list that `account` takes, and the bytes that it reads: one more, so that a longer input is seen to be longer.
 const ACCOUNT_BYTES: usize = 65536;
@@ -37,13 +37,6 @@ const TOTAL_BYTES: usize = 85;
 
 const REPORT_BYTES: usize = ROOM_ROWS * LINE_BYTES + TOTAL_BYTES;
 
-// The lines put: the place after them, and what was counted.
-#[derive(Clone, Copy)]
-struct Lines {
-    end: usize,
-    counts: Counts,
-}
-
 // The size that is printed for a row: what MSIZE would give after the instruction.
 fn printed_size(x: Row) -> Bytes
     ensures { result.0 ≡ printed_size (plain x) }
@@ -51,139 +44,116 @@ fn printed_size(x: Row) -> Bytes
     Bytes(x.body.memn)
 }
 
-// The fields of a line up to oob.
-fn put_mark(out: &mut [u8; REPORT_BYTES], at: usize, stamp: u64, cn: u64, oob: u64) -> usize
-    requires { at + max_mark ≤ max_report }
-    ensures put { Put out.old at (mark_text stamp cn oob) out.new result }
-    ensures upper_bound { result ≤ at + max_mark }
+// The fields of a line up to oob. What puts a part of the lines asks for room of its own, since a page has it or not by what was put before; what puts a whole
+// report asks for none.
+fn put_mark(page: &mut Page<REPORT_BYTES>, stamp: u64, cn: u64, oob: u64)
+    requires { length page.old + max_mark ≤ max_report }
+    ensures put { page.new ≡ page.old ++ mark_text stamp cn oob }
+    ensures upper_bound { length page.new ≤ length page.old + max_mark }
 {
-    let one = put_field(out, at, b"stamp=", stamp);
-    let two = put_field(out, one, b" cn=", cn);
-    put_field(out, two, b" oob=", oob)
+    page.put_field(b"stamp=", stamp);
+    page.put_field(b" cn=", cn);
+    page.put_field(b" oob=", oob);
 }
 
 // The fields of a line from size on, and its newline.
-fn put_charge(out: &mut [u8; REPORT_BYTES], at: usize, size: Bytes, words: Words, gas: Gas) -> usize
-    requires { at + max_charge ≤ max_report }
-    ensures put { Put out.old at (charge_text size.0 words.0 gas.0) out.new result }
-    ensures upper_bound { result ≤ at + max_charge }
+fn put_charge(page: &mut Page<REPORT_BYTES>, size: Bytes, words: Words, gas: Gas)
+    requires { length page.old + max_charge ≤ max_report }
+    ensures put { page.new ≡ page.old ++ charge_text size.0 words.0 gas.0 }
+    ensures upper_bound { length page.new ≤ length page.old + max_charge }
 {
-    let one = put_field(out, at, b" size=", size.0 as u64);
-    let two = put_field(out, one, b" words=", words.0 as u64);
-    let three = put_field(out, two, b" gas=", gas.0);
-    put_bytes(out, three, b"\n")
+    page.put_field(b" size=", size.0 as u64);
+    page.put_field(b" words=", words.0 as u64);
+    page.put_field(b" gas=", gas.0);
+    page.put_bytes(b"\n");
 }
 
 // The line of a row.
-fn put_line(out: &mut [u8; REPORT_BYTES], at: usize, x: Row) -> usize
-    requires { at + max_line ≤ max_report }
-    ensures put { Put out.old at (line_text (plain x)) out.new result }
-    ensures upper_bound { result ≤ at + max_line }
+fn put_line(page: &mut Page<REPORT_BYTES>, x: Row)
+    requires { length page.old + max_line ≤ max_report }
+    ensures put { page.new ≡ page.old ++ line_text (plain x) }
+    ensures upper_bound { length page.new ≤ length page.old + max_line }
 {
     let size = printed_size(x);
     let words = words_of(Bytes(x.body.memn));
-    let next = put_mark(
-        out,
-        at,
+    put_mark(
+        page,
         x.head.stamp as u64,
         x.head.cn as u64,
         x.head.ooob as u64,
     );
-    put_charge(out, next, size, words, Gas(x.body.gas as u64))
+    put_charge(page, size, words, Gas(x.body.gas as u64));
 }
 
 // The line of a row that starts a cycle, and nothing for any other.
-fn put_start(out: &mut [u8; REPORT_BYTES], at: usize, x: Row) -> usize
-    requires { at + max_line ≤ max_report }
-    ensures put { Put out.old at (row_text (plain x)) out.new result }
-    ensures upper_bound { result ≤ at + max_line }
+fn put_start(page: &mut Page<REPORT_BYTES>, x: Row)
+    requires { length page.old + max_line ≤ max_report }
+    ensures put { page.new ≡ page.old ++ row_text (plain x) }
+    ensures upper_bound { length page.new ≤ length page.old + max_line }
 {
     if starts_cycle(x) {
-        put_line(out, at, x)
-    } else {
-        at
+        put_line(page, x);
     }
 }
 
-// A line for each instruction of so many rows, at the start of out.
-fn put_lines(trace: &[u8], rows: usize, out: &mut [u8; REPORT_BYTES]) -> Lines
+// A line for each instruction of so many rows, alone on the page, and what the rows are counted as.
+fn put_lines(trace: &[u8], rows: usize, page: &mut Page<REPORT_BYTES>) -> Counts
     requires row_bytes_in_bounds { rows * row_bytes ≤ length trace.now }
     requires rows_le_room_rows { rows ≤ room_rows }
-    ensures { LinesPut out.old (table rows (row_at trace.now)) out.new result }
+    ensures { LinesPut (table rows (row_at trace.now)) page.new result }
 {
-    let mut counts = Counts {
-        instructions: 0,
-        oob: 0,
-        empty: 0,
-    };
-    let mut end: usize = 0;
-    let mut i: usize = 0;
-    while i < rows {
-        let x = read_row(trace, i);
-        end = put_start(out, end, x);
+    page.clear();
+    let mut counts = Counts::default();
+    for i in 0..rows {
+        let x = RowBytes::of_row(trace, i).read();
+        put_start(page, x);
         counts = count_row(counts, x);
-        i += 1;
     }
-    Lines { end, counts }
+    counts
 }
 
 // The last line.
-fn put_total(
-    out: &mut [u8; REPORT_BYTES],
-    at: usize,
-    instructions: u64,
-    oob: u64,
-    rows: u64,
-) -> usize
-    requires { at + max_total ≤ max_report }
-    ensures put { Put out.old at (total_text instructions oob rows) out.new result }
-    ensures upper_bound { result ≤ length out.new }
+fn put_total(page: &mut Page<REPORT_BYTES>, counts: Counts, rows: u64)
+    requires { length page.old + max_total ≤ max_report }
+    ensures { page.new ≡ page.old ++ total_text counts.instructions counts.oob rows }
 {
-    let one = put_field(out, at, b"instructions=", instructions);
-    let two = put_field(out, one, b" oob=", oob);
-    let three = put_field(out, two, b" rows=", rows);
-    put_bytes(out, three, b"\n")
+    page.put_field(b"instructions=", counts.instructions);
+    page.put_field(b" oob=", counts.oob);
+    page.put_field(b" rows=", rows);
+    page.put_bytes(b"\n");
 }
 
-// All lines for so many rows, at the start of out.
-fn put_account(trace: &[u8], rows: usize, out: &mut [u8; REPORT_BYTES]) -> usize
+// All lines for so many rows, alone on the page.
+fn put_account(trace: &[u8], rows: usize, page: &mut Page<REPORT_BYTES>)
     requires row_bytes_in_bounds { rows * row_bytes ≤ length trace.now }
     requires rows_le_room_rows { rows ≤ room_rows }
-    ensures { Front out.old (account_text (table rows (row_at trace.now))) out.new result }
+    ensures { page.new ≡ account_text (table rows (row_at trace.now)) }
 {
-    let lines = put_lines(trace, rows, out);
-    put_total(
-        out,
-        lines.end,
-        lines.counts.instructions,
-        lines.counts.oob,
-        rows as u64,
-    )
+    let counts = put_lines(trace, rows, page);
+    put_total(page, counts, rows as u64);
 }
 
-// What is printed for the bytes read, at the start of out.
-fn put_report(input: &[u8], out: &mut [u8; REPORT_BYTES]) -> usize
-    ensures { Front out.old (report input.now) out.new result }
+// What is printed for the bytes read, alone on the page.
+fn put_report(input: &[u8], page: &mut Page<REPORT_BYTES>)
+    ensures { page.new ≡ report input.now }
 {
     if ACCOUNT_BYTES < input.len() {
-        let long = refusal::list_too_long();
-        return text::put_refusal(out, long.number, long.line);
+        return page.put_refused(Refusal::ListTooLong);
     }
     let mut trace = [0u8; ROOM_BYTES];
-    let filled = fill(input, EMPTY_ROWS, &mut trace);
-    match filled {
-        Filled::Rows(n) => put_account(&trace, n as usize, out),
-        Filled::Refused(r) => text::put_refusal(out, r.number, r.line),
+    match fill(input, EMPTY_ROWS, &mut trace) {
+        Ok(rows) => put_account(&trace, rows as usize, page),
+        Err(r) => page.put_refused(r),
     }
 }
 
 // After a read that failed nothing is printed.
 fn main(rt: HostRuntime) {
     let mut input = [0u8; INPUT_BYTES];
-    let Input::Bytes(n) = read_input(&rt, b"account", &mut input) else {
+    let Ok(n) = read_input(&rt, b"account", &mut input) else {
         return;
     };
-    let mut lines = [0u8; REPORT_BYTES];
-    let m = put_report(&input[..n], &mut lines);
-    write_output(&rt, b"account", &lines[..m]);
+    let mut page = Page::new();
+    put_report(&input[..n], &mut page);
+    write_output(&rt, b"account", page.bytes());
 }

@@ -7,12 +7,7 @@ use native.Mathlib.Nat.{div-eq_of_lt-le, mul-div-mul_left, one-le-pow, pow-le-po
 use native.Mathlib.Omega.{arith}
 use lib.Pow.{pow-add}
 use Rattle.number.specs.Sums.{prefix_at, digit_at}
-
--- the first i of the m + 1 digits of d have gone off: they spell q, and what is left of d stands at the front of r
-pub record Shifted (m d i q r : ℕ) : Type 0 where
-  pub parts : 256 ^ i * d ≡ q * 256 ^ suc m + r
-  pub left : r < 256 ^ suc m
-  pub fits : d < 256 ^ suc m
+use Rattle.beyond.specs.Shifted.{Shifted}
 
 -- at first none have
 pub shift_none : (m d : ℕ) → d < 256 ^ suc m → Shifted m d 0 0 d

@@ -1,3 +1,3 @@
 -- The laws of `cell`.
-pub mod LowLaws
+pub mod WriteLaws
 pub mod ReadLaws

@@ -1,15 +1,10 @@
--- Little-endian numbers, and the number whose bytes stand the other way round.
+-- Little-endian numbers.
 use Rattle.std.specs.Prelude.{ℕ, zero, suc, ◌+◌, ◌*◌, ◌/◌, ◌%◌, List, [], ◌∷◌, get_or}
 
 -- the last w bytes of v, the least significant first
 unfoldable pub le : ℕ → ℕ → List ℕ
 le zero v = []
 le (suc w) v = v % 256 ∷ le w (v / 256)
-
--- the last w bytes of v, put one by one behind those of a
-abbrev pub swapped : ℕ → ℕ → ℕ → ℕ
-swapped zero v a = a
-swapped (suc w) v a = swapped w (v / 256) (a * 256 + v % 256)
 
 -- the number that stands in the w bytes of l from place p on, the first byte the least significant
 unfoldable pub low_num : List ℕ → ℕ → ℕ → ℕ

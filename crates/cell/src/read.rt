@@ -1,35 +1,30 @@
-// Big-endian numbers of 1, 2, 3, 4, 6, 8 and 17 bytes, read from a slice of bytes: a little-endian load, and its bytes the other way round. Only crates of this
-// repository call these readers: each asks that its bytes are there.
-ghost use Rattle.std.specs.Prelude.{◌≡◌, ◌+◌, ◌≤◌, length};
+// Big-endian numbers of 1, 2, 3, 4, 6, 8 and 17 bytes, and a little-endian one of 8, read from a slice of bytes: the compiler makes one load of each array, and
+// one swap. Only crates of this repository call these readers: each asks that its bytes are there. Each width has a name of its own, as std's `from_be_bytes`
+// has at each type, so that a call says how many bytes it reads. The bytes and a place in them are two parameters: a struct of both would be made anew for each cell.
+ghost use Rattle.std.specs.Prelude.{◌≡◌, ◌+◌, ◌≤◌, length, take, drop};
 ghost use Rattle.number.specs.Num.{num};
 ghost use Rattle.number.specs.Whole.{val};
 ghost use Rattle.cell.specs.Low.{low_num};
 
-use crate::join::{join_1_1, join_2_2, join_4_4};
-use crate::swap::{swap16, swap32, swap64};
 use number::wide::Wide;
 
-// The little-endian number in the two, four and eight bytes from p on.
-
-fn low16_at(t: &[u8], p: usize) -> u16
-    requires { p + 2 ≤ length t.now }
-    ensures { result ≡ low_num t.now p 2 }
+// The N bytes from p on.
+fn bytes_at<const N: usize>(t: &[u8], p: usize) -> [u8; N]
+    requires { p + N ≤ length t.now }
+    ensures { result ≡ take N (drop p t.now) }
 {
-    join_1_1(t[p + 1], t[p])
+    let mut bytes = [0u8; N];
+    bytes.copy_from_slice(&t[p..p + N]);
+    bytes
 }
 
-fn low32_at(t: &[u8], p: usize) -> u32
-    requires { p + 4 ≤ length t.now }
-    ensures { result ≡ low_num t.now p 4 }
-{
-    join_2_2(low16_at(t, p + 2), low16_at(t, p))
-}
-
+// The little-endian number in the eight bytes from p on.
+#[tactic(auto, using(crate::proofs::ReadLaws::le_read_8))]
 pub fn low64_at(t: &[u8], p: usize) -> u64
     requires { p + 8 ≤ length t.now }
     ensures { result ≡ low_num t.now p 8 }
 {
-    join_4_4(low32_at(t, p + 4), low32_at(t, p))
+    u64::from_le_bytes(bytes_at(t, p))
 }
 
 // The byte at p.
@@ -41,27 +36,30 @@ pub fn u8_at(t: &[u8], p: usize) -> u8
 }
 
 // The number in the two bytes from p on.
+#[tactic(auto, using(crate::proofs::ReadLaws::be_read_2))]
 pub fn u16_at(t: &[u8], p: usize) -> u16
     requires { p + 2 ≤ length t.now }
     ensures { result ≡ num t.now p 2 }
 {
-    swap16(low16_at(t, p))
+    u16::from_be_bytes(bytes_at(t, p))
 }
 
 // The number in the four bytes from p on.
+#[tactic(auto, using(crate::proofs::ReadLaws::be_read_4))]
 pub fn u32_at(t: &[u8], p: usize) -> u32
     requires { p + 4 ≤ length t.now }
     ensures { result ≡ num t.now p 4 }
 {
-    swap32(low32_at(t, p))
+    u32::from_be_bytes(bytes_at(t, p))
 }
 
 // The number in the eight bytes from p on.
+#[tactic(auto, using(crate::proofs::ReadLaws::be_read_8))]
 pub fn u64_at(t: &[u8], p: usize) -> u64
     requires { p + 8 ≤ length t.now }
     ensures { result ≡ num t.now p 8 }
 {
-    swap64(low64_at(t, p))
+    u64::from_be_bytes(bytes_at(t, p))
 }
 
 // The number in the three bytes from p on. Four bytes are read at once: it asks that a fourth is there.

@@ -1,33 +1,31 @@
 -- What the checker knows before a cycle gives the state that the cycle starts at, and with a cycle that stands what it knows behind it.
 use Prim.Native.Nat.{ℕ, zero, suc, ◌+◌, ◌-◌, ◌^◌, ◌≤◌, ◌<◌}
 use mathlib.Core.Bool.{Bool, true, false, not, ◌&&◌}
-use mathlib.Core.List.{List}
 use mathlib.Core.Logic.{◌≢◌}
 use mathlib.Core.Path.{◌≡◌, refl, sym, ◌∙◌, ap}
 use native.Mathlib.Decide.{dec_lt}
-use native.Mathlib.Nat.{suc-ne-zero}
 use native.Mathlib.Numerals.{add-one}
 use native.Mathlib.Omega.{arith}
 use borrow.Author.Tests.{leb-true, eqb-false, ne_eqb, le-leb, lt-leb, not-true}
 use lib.Dec.{eqb, leb}
-use lib.ListN.{set, replicate}
+use lib.ListN.{replicate}
+use mir.Val.{bool_byte}
 use Rattle.number.proofs.TestLaws.{both}
 use Rattle.model.specs.Columns.{Cells, columns, cells_in, empty_row, table}
 use Rattle.model.specs.Constraints.{in_use, out_last}
 use Rattle.model.specs.Cycles.{Claim, Counts, starts, counts}
 use Rattle.model.specs.Promises.{ValidClaim}
 use Rattle.model.specs.State.{Context, State, Sound}
-use Rattle.model.specs.Tests.{pick, zeros}
+use Rattle.model.specs.Tests.{pick, bit, zeros}
 use Rattle.model.specs.Trace.{in_bounds, last_of, row_of, with_cycle}
-use Rattle.model.specs.Verdict.{row_before, before}
+use Rattle.model.specs.Verdict.{before}
 use Rattle.model.proofs.OneCycle.{Ready, CycleAt, ready_first, ready_next, counts_cycle}
 use Rattle.model.proofs.TestFacts.{pick_has}
 use Rattle.model.proofs.VerdictLaws.{judged_meet}
-use Rattle.state.proofs.LookLaws.{stamp_before_new}
 use Rattle.compare.specs.Same.{cycle_stands}
 use Rattle.compare.proofs.SameLaws.{cycle_stands_lem}
 use Rattle.compare.proofs.ZeroLaws.{zeros_empty}
-use Rattle.recent.specs.Notes.{slots, slot_of, Span, wider, Known, recalled}
+use Rattle.recent.specs.Notes.{slots, Span, Recent, noted, Known, recalled}
 use Rattle.recent.proofs.NoteLaws.{known_none, known_cycle, recalled-before}
 use Rattle.count.proofs.CountLaws.{Below, counts-none, counts_next, counts-below}
 use Rattle.checker.specs.Steps.{empty_from, leading_empty, cycle_next}
@@ -97,14 +95,15 @@ known_empty s r e empty = known_none s r e (λ j h. rw (empty j h))
 -- ---- from cycle to cycle
 
 -- Before row i of n the rows are empty ones and whole cycles: they meet all constraints, so that a cycle may start, and they are noted and counted.
-pub record Walked (r : ℕ → Cells) (n : ℕ) (notes : List ℕ) (span : Span) (done : Counts) (i : ℕ) : Type 0 where
+pub record Walked (r : ℕ → Cells) (n : ℕ) (p : Recent) (done : Counts) (i : ℕ) : Type 0 where
   pub within : i ≤ n
   pub ready : Ready r n i done.instructions
-  pub known : Known notes span r i
+  pub known : Known p.notes p.span r i
   pub counted : done ≡ counts (table i r)
 
 -- behind empty rows
-pub walked-first : (r : ℕ → Cells) (n : ℕ) (span : Span) → 0 < leading_empty r n → Walked r n (replicate slots 0) span (only_empty (leading_empty r n)) (leading_empty r n)
+pub walked-first : (r : ℕ → Cells) (n : ℕ) (span : Span) → 0 < leading_empty r n
+    → Walked r n (record { notes = replicate slots 0; span = span }) (only_empty (leading_empty r n)) (leading_empty r n)
 walked-first r n span some =
     let empty : (j : ℕ) → j < leading_empty r n → r j ≡ empty_row = λ j h. empty_below r n 0 j (omega arith) h in
     record {
@@ -116,14 +115,14 @@ walked-first r n span some =
 
 -- ---- whether a cycle stands, test by test
 
-module _ (r : ℕ → Cells) (n : ℕ) (notes : List ℕ) (span : Span) (i cycles : ℕ) (c : Claim) where
+module _ (r : ℕ → Cells) (n : ℕ) (p : Recent) (i cycles : ℕ) (c : Claim) where
   -- the claim has no context
-  pub no_context : c.context.cn ≡ 0 → false ≡ cycle_next r n notes span i cycles c
+  pub no_context : c.context.cn ≡ 0 → false ≡ cycle_next r n p i cycles c
   unfolding cycle_next
   no_context e = rw e
 
   -- fewer rows are left than its cycle has
-  pub no_room : n < i + suc (last_of c) → false ≡ cycle_next r n notes span i cycles c
+  pub no_room : n < i + suc (last_of c) → false ≡ cycle_next r n p i cycles c
   unfolding cycle_next
   no_room h = rw (lt-leb (i + suc (last_of c)) n h) (by (not (eqb c.context.cn 0)) _)
     where
@@ -133,33 +132,29 @@ module _ (r : ℕ → Cells) (n : ℕ) (notes : List ℕ) (span : Span) (i cycle
 
   -- else the comparison decides, at the next stamp and the recalled state
   pub compared : {t : Bool} {stamp : ℕ} {s : State} → c.context.cn ≢ 0 → i + suc (last_of c) ≤ n → stamp ≡ suc cycles
-      → s ≡ recalled r notes span c.context → t ≡ cycle_stands r i stamp s c → t ≡ cycle_next r n notes span i cycles c
+      → s ≡ recalled r p.notes p.span c.context → t ≡ cycle_stands r i stamp s c → t ≡ cycle_next r n p i cycles c
   unfolding cycle_next
   compared some room next own e = rw (ne_eqb c.context.cn 0 some, le-leb (i + suc (last_of c)) n room, ← next, ← own) e
 
-module _ {r : ℕ → Cells} {n : ℕ} {notes : List ℕ} {span : Span} {done : Counts} {i : ℕ} (w : Walked r n notes span done i) where
+module _ {r : ℕ → Cells} {n : ℕ} {p : Recent} {done : Counts} {i : ℕ} (w : Walked r n p done i) where
   abbrev k : ℕ
   k = done.instructions
-
-  -- the row before has the number of the cycles as its STAMP
-  pub walked_stamp : done.instructions ≡ (row_before r i).stamp
-  walked_stamp = omega (arith, (stamp_before_new _ _ _ _ _ w.ready.leads.stamps w.ready.leads.cts (suc-ne-zero k) refl).0)
 
   -- there are no more cycles than rows
   pub walked_few : Below i done
   walked_few = rw w.counted (counts-below r i)
 
   -- the state that is recalled is the one before the row
-  recalls : (x : Context) → recalled r notes span x ≡ before r i x
+  recalls : (x : Context) → recalled r p.notes p.span x ≡ before r i x
   recalls x = recalled-before w.known n ((judged_meet r n i).0 w.ready.meets) x
 
   -- so it is sound
-  pub recalls_sound : (x : Context) → Sound (recalled r notes span x)
+  pub recalls_sound : (x : Context) → Sound (recalled r p.notes p.span x)
   recalls_sound x = rw (recalls x) (w.ready.sound x)
 
-  module _ (c : Claim) (next : cycle_next r n notes span i done.instructions c ≡ true) where
+  module _ (c : Claim) (next : cycle_next r n p i done.instructions c ≡ true) where
     abbrev stands : Bool
-    stands = cycle_stands r i (suc k) (recalled r notes span c.context) c
+    stands = cycle_stands r i (suc k) (recalled r p.notes p.span c.context) c
 
     tests : ((not (eqb c.context.cn 0) ≡ true) × (leb (i + suc (last_of c)) n ≡ true)) × (stands ≡ true)
     unfolding cycle_next
@@ -175,13 +170,13 @@ module _ {r : ℕ → Cells} {n : ℕ} {notes : List ℕ} {span : Span} {done : 
     there j h = cycle_stands_lem r i (suc k) _ c tests.1 j h ∙ ap (λ (s : State). row_of (suc k) s c j) (recalls c.context)
 
     -- behind it the next may start; its last row is noted, its context is in the span, and it is counted
-    pub walked_next : {noted : List ℕ} {wide : Span} {more : Counts} {end : ℕ} → c.context.cn < 2 ^ 32 → c.end1 < 256 ^ 17 → c.end2 < 256 ^ 17
-        → noted ≡ set notes (slot_of c.context) (i + last_of c) → wide ≡ wider span c.context → more ≡ with_cycle done c → end ≡ i + suc (last_of c)
-        → Walked r n noted wide more end
-    walked_next cn end1 end2 p q s e =
+    pub walked_next : {q : Recent} {more : Counts} {end : ℕ} → c.context.cn < 2 ^ 32 → c.end1 < 256 ^ 17 → c.end2 < 256 ^ 17
+        → q ≡ noted p c.context (i + last_of c) → more ≡ with_cycle done c → end ≡ i + suc (last_of c)
+        → Walked r n q more end
+    walked_next cn end1 end2 d s e =
         let some : c.context.cn ≢ 0 = eqb-false c.context.cn 0 (not-true (eqb c.context.cn 0) tests.0.0) in
         let valid : ValidClaim c = record { some = omega arith; cn = cn; end1 = end1; end2 = end2 } in
-        rw (p, q, s, e)
+        rw (d, s, e)
         (record {
           within = next_fits;
           ready = rw (add-one k) (ready_next r n k c valid i w.ready next_fits there);
@@ -190,10 +185,10 @@ module _ {r : ℕ → Cells} {n : ℕ} {notes : List ℕ} {span : Span} {done : 
         })
 
 -- a claim is out of bounds where its cycle has so many rows
-long-by : (c : Claim) (t : Bool) → in_bounds c ≡ t → eqb (suc (last_of c)) (suc out_last) ≡ not t
+pub long_out : (c : Claim) → bool_byte (eqb (suc (last_of c)) (suc out_last)) ≡ bit (not (in_bounds c))
 unfolding last_of
-long-by c true e = rw e
-long-by c false e = rw e
-
-pub long_out : (c : Claim) → eqb (suc (last_of c)) (suc out_last) ≡ not (in_bounds c)
-long_out c = long-by c (in_bounds c) refl
+long_out c = by (in_bounds c) refl
+  where
+    by : (t : Bool) → in_bounds c ≡ t → bool_byte (eqb (suc (last_of c)) (suc out_last)) ≡ bit (not t)
+    by true e = rw e
+    by false e = rw e

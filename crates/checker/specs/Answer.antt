@@ -1,7 +1,7 @@
 -- What the checker's answer says: the model's verdict, and document 01's numbers for each case.
 use Rattle.std.specs.Prelude.{ℕ}
 use Rattle.model.specs.Verdict as model
-use Rattle.refusal.specs.Refusals.{lineless}
+use Rattle.refusal.specs.Refusals.{number, line, lineless}
 use Rattle.count.specs.Counts.{told_counts}
 use Rattle.checker.specs.declared.Verdict.{Verdict}
 use Rattle.checker.specs.declared.Verdict.TheVariants.{Accepted, Broken, Refused}
@@ -38,8 +38,8 @@ numbers (Accepted c) = record {
 }
 numbers (Broken i k) = record { refused = 0; line = 0; accepted = 0; instructions = 0; oob = 0; empty = 0; row = i; constraint = k }
 numbers (Refused r) = record {
-  refused = r.number;
-  line = r.line;
+  refused = number r;
+  line = line r;
   accepted = 0;
   instructions = 0;
   oob = 0;

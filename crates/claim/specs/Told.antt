@@ -1,9 +1,10 @@
 -- The code's fields, instructions and claims as those of the definitions, and back.
-use Rattle.std.specs.Prelude.{ℕ}
+use Rattle.std.specs.Prelude.{ℕ, Result, Ok, Err}
 use Rattle.number.specs.Whole.{val, wide}
 use Rattle.long.specs.Halves.{whole, long}
 use Rattle.model.specs.Cycles as model
 use Rattle.refusal.specs.Refusals.{in_line}
+use Rattle.refusal.specs.declared.Refusal.{Refusal}
 use Rattle.state.specs.Plain.{context}
 use Rattle.claim.specs.Instruction as spec
 use Rattle.claim.specs.declared.instruction.Fields.{Fields}
@@ -12,8 +13,6 @@ use Rattle.claim.specs.declared.instruction.Touched.{Touched}
 use Rattle.claim.specs.declared.instruction.Touched.TheVariants.{Nothing, One, Two}
 use Rattle.claim.specs.declared.instruction.Instruction.{Instruction}
 use Rattle.claim.specs.declared.instruction.Use.{Use}
-use Rattle.claim.specs.declared.instruction.Decoded.{Decoded}
-use Rattle.claim.specs.declared.instruction.Decoded.TheVariants.{Made, Refused}
 use Rattle.claim.specs.declared.claim.Claim.{Claim}
 
 -- the fields that the code holds
@@ -50,9 +49,9 @@ abbrev pub plain_instruction : Instruction → spec.Instruction
 plain_instruction i = record { context = context i.context; op = i.op; touched = plain_touched i.touched }
 
 -- the answer for a line of this number
-abbrev pub told_decoded : (line : ℕ) → spec.Decoded → Decoded
-told_decoded line (spec.decoded i) = Made (told_instruction i)
-told_decoded line (spec.refused n) = Refused (in_line n line)
+abbrev pub told_decoded : (line : ℕ) → spec.Decoded → Result Instruction Refusal
+told_decoded line (spec.decoded i) = Ok (told_instruction i)
+told_decoded line (spec.refused n) = Err (in_line n line)
 
 -- a claim
 abbrev pub told_claim : model.Claim → Claim

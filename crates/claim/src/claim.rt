@@ -1,19 +1,15 @@
 // The claim of an instruction: its context and the two ends of what it touches.
-ghost use Rattle.std.specs.Prelude.{◌≡◌, ◌+◌, ◌*◌, ◌≤◌, length};
+ghost use Rattle.std.specs.Prelude.{◌≡◌};
 ghost use Rattle.number.specs.Whole.{wide};
-ghost use Rattle.model.specs.Columns.{row_bytes, row_at};
-ghost use Rattle.model.specs.Cycles.{claim_of as Cycles·claimOf};
+ghost use Rattle.model.specs.Cycles.{claim_of as claim_of_row};
 ghost use Rattle.claim.specs.Claims.{end_of, claim_of};
 ghost use Rattle.claim.specs.Told.{plain_claim, plain_range, plain_instruction, told_claim};
 
 use crate::instruction::{Instruction, Range, Touched};
-use cell::read::wide_at;
-use long::{is_zero, sum};
-use model::ROW_BYTES;
-use number::wide::{Wide, small};
-use row::place;
+use long::sum;
+use number::wide::Wide;
+use row::view::RowBytes;
 use state::Context;
-use state::look::context_at;
 
 // A context and two ends.
 #[derive(Clone, Copy)]
@@ -24,17 +20,20 @@ pub struct Claim {
 }
 
 // The end of a range: 0 where its length is 0, else its offset plus its length.
+#[tactic(auto, using(number::proofs::WholeLaws::wide_is), unfolding(gas::specs::Gas::range_end))]
 fn end_of(r: Range) -> Wide
     ensures { result ≡ wide (end_of (plain_range r)) }
 {
-    if is_zero(r.len) {
-        small(0)
+    if r.len.is_zero() {
+        Wide::from(0)
     } else {
         sum(r.at, r.len)
     }
 }
 
 // The claim of an instruction.
+#[tactic(auto, using(number::proofs::WholeLaws::wide_is), unfolding(crate::specs::Claims::claim_of))]
+#[inline(always)]
 pub fn claim_of(i: Instruction) -> Claim
     ensures { result ≡ told_claim (claim_of (plain_instruction i)) }
 {
@@ -43,13 +42,13 @@ pub fn claim_of(i: Instruction) -> Claim
     match touched {
         Touched::Nothing => Claim {
             context,
-            end1: small(0),
-            end2: small(0),
+            end1: Wide::from(0),
+            end2: Wide::from(0),
         },
         Touched::One(a) => Claim {
             context,
             end1: end_of(a),
-            end2: small(0),
+            end2: Wide::from(0),
         },
         Touched::Two(a, b) => Claim {
             context,
@@ -59,18 +58,14 @@ pub fn claim_of(i: Instruction) -> Claim
     }
 }
 
-// The claim that row i shows. Only crates of this repository call this function: it asks that the row is there.
-pub fn claim_shown(t: &[u8], i: usize) -> Claim
-    requires { (i + 1) * row_bytes ≤ length t.now }
-    ensures { plain_claim result ≡ Cycles·claimOf (row_at t.now i) }
+// The claim that a row shows.
+pub fn claim_in(row: &RowBytes) -> Claim
+    ensures { plain_claim result ≡ claim_of_row row.now }
 {
-    let p = i * ROW_BYTES;
-    let context = context_at(t, i);
-    let end1 = wide_at(t, p + place::END1);
-    let end2 = wide_at(t, p + place::END2);
+    let context = Context { cn: row.cn() };
     Claim {
         context,
-        end1,
-        end2,
+        end1: row.end1(),
+        end2: row.end2(),
     }
 }

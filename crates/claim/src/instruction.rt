@@ -1,12 +1,13 @@
 // The fields of a line, and the instruction that they are.
 ghost use Rattle.std.specs.Prelude.{◌≡◌};
 ghost use Rattle.long.specs.Halves.{whole};
+ghost use Rattle.opcode.specs.Opcodes.{category_number};
 ghost use Rattle.claim.specs.Instruction.{one, range, uses, use_of, unused_zero, decode};
 ghost use Rattle.claim.specs.Told.{plain_fields, told_use, told_decoded};
 
 use gas::WORD_BYTES;
-use long::{Long, is_zero, small};
-use opcode::{BYTE, NOTHING, RANGE, UNLISTED, WORD, category_of};
+use long::Long;
+use opcode::{Category, category_of};
 use refusal::Refusal;
 use state::Context;
 
@@ -28,7 +29,7 @@ pub struct Range {
     pub len: Long,
 }
 
-// What an instruction touches.
+// What an instruction touches: document 01 gives the enum its form.
 #[derive(Clone, Copy)]
 pub enum Touched {
     Nothing,
@@ -44,13 +45,6 @@ pub struct Instruction {
     pub touched: Touched,
 }
 
-// The instruction of a line, or why the line is refused.
-#[derive(Clone, Copy)]
-pub enum Decoded {
-    Made(Instruction),
-    Refused(Refusal),
-}
-
 // How many of at1, len1, at2 and len2 are used, from the first on, and what is touched.
 #[derive(Clone, Copy)]
 struct Use {
@@ -59,6 +53,7 @@ struct Use {
 }
 
 // One range is touched, by so many fields.
+#[tactic(auto, using(long::proofs::LongLaws::long_is))]
 fn one_range(fields: u8, at: Long, len: Long) -> Use
     ensures { result ≡ told_use (uses fields (one (range (whole at) (whole len)))) }
 {
@@ -69,32 +64,32 @@ fn one_range(fields: u8, at: Long, len: Long) -> Use
 }
 
 // What a category makes of the fields: the one place that says which of them it uses.
-fn use_of(category: u8, f: Fields) -> Use
-    ensures { result ≡ told_use (use_of category (plain_fields f)) }
+#[tactic(auto, using(long::proofs::LongLaws::long_is, long::proofs::LongLaws::whole_long), unfolding(crate::specs::Instruction::use_of))]
+fn use_of(category: Category, f: Fields) -> Use
+    ensures { result ≡ told_use (use_of (category_number category) (plain_fields f)) }
 {
-    if category == NOTHING {
-        return Use {
+    match category {
+        Category::Nothing => Use {
             fields: 0,
             touched: Touched::Nothing,
-        };
-    }
-    if category == WORD {
-        return one_range(1, f.at1, small(WORD_BYTES as u64));
-    }
-    if category == BYTE {
-        return one_range(1, f.at1, small(1));
-    }
-    if category == RANGE {
-        return one_range(2, f.at1, f.len1);
-    }
-    let at = f.at1;
-    let len = f.len1;
-    let first = Range { at, len };
-    let at = f.at2;
-    let len = f.len2;
-    Use {
-        fields: 4,
-        touched: Touched::Two(first, Range { at, len }),
+        },
+        Category::Word => one_range(1, f.at1, Long::from(WORD_BYTES as u64)),
+        Category::Byte => one_range(1, f.at1, Long::from(1)),
+        Category::Range => one_range(2, f.at1, f.len1),
+        Category::TwoRanges => {
+            let first = Range {
+                at: f.at1,
+                len: f.len1,
+            };
+            let second = Range {
+                at: f.at2,
+                len: f.len2,
+            };
+            Use {
+                fields: 4,
+                touched: Touched::Two(first, second),
+            }
+        }
     }
 }
 
@@ -102,31 +97,29 @@ fn use_of(category: u8, f: Fields) -> Use
 fn unused_zero(n: u8, f: Fields) -> bool
     ensures { result ≡ unused_zero n (plain_fields f) }
 {
-    ((0 < n) | is_zero(f.at1))
-        & ((1 < n) | is_zero(f.len1))
-        & (((2 < n) | is_zero(f.at2)) & ((3 < n) | is_zero(f.len2)))
+    ((0 < n) | f.at1.is_zero())
+        & ((1 < n) | f.len1.is_zero())
+        & (((2 < n) | f.at2.is_zero()) & ((3 < n) | f.len2.is_zero()))
 }
 
 // The instruction of a line with this number, from its fields: refused are cn 0, then an opcode that is not in the table, then an unused field that is
 // not 0.
-pub fn decode_fields(f: Fields, line: u64) -> Decoded
+#[tactic(auto, unfolding(crate::specs::Instruction::decode))]
+#[inline(always)]
+pub fn decode_fields(f: Fields, line: u64) -> Result<Instruction, Refusal>
     ensures { result ≡ told_decoded line (decode (plain_fields f)) }
 {
     if f.cn == 0 {
-        return Decoded::Refused(refusal::cn_zero(line));
+        return Err(Refusal::CnZero { line });
     }
-    let category = category_of(f.op);
-    if category == UNLISTED {
-        return Decoded::Refused(refusal::not_listed(line));
-    }
+    let category = category_of(f.op).ok_or(Refusal::NotListed { line })?;
     let used = use_of(category, f);
     if !unused_zero(used.fields, f) {
-        return Decoded::Refused(refusal::unused_field(line));
+        return Err(Refusal::UnusedField { line });
     }
-    let touched = used.touched;
-    Decoded::Made(Instruction {
+    Ok(Instruction {
         context: Context { cn: f.cn },
         op: f.op,
-        touched,
+        touched: used.touched,
     })
 }

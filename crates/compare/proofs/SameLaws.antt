@@ -1,22 +1,20 @@
 -- Rows with the same cells are equal, and a cycle that stands in rows is those rows.
-use Prim.Native.Nat.{ℕ, zero, suc, ◌+◌, ◌*◌, ◌≤◌, ◌<◌}
+use Prim.Native.Nat.{ℕ, zero, suc, ◌+◌, ◌≤◌, ◌<◌}
 use mathlib.Core.Bool.{Bool, true, false, ◌&&◌, and_assoc, and-false}
 use mathlib.Core.List.{List, [], ◌∷◌, ◌++◌}
-use mathlib.Core.Path.{◌≡◌, refl, sym, ◌∙◌, ap}
+use mathlib.Core.Path.{◌≡◌, refl, sym, ap}
 use native.Mathlib.Decide.{ℕ_discrete}
 use native.Mathlib.Numerals.{add-one}
 use native.Mathlib.Omega.{arith}
 use lib.Dec.{eqb}
 use Rattle.number.proofs.TestLaws.{both, both_intro}
-use Rattle.model.specs.Columns.{Cells, Column, up_to_gas, from_comp, columns, cells_in, of_list, row_bytes, row_at}
+use Rattle.model.specs.Columns.{Cells, Column, up_to_gas, from_comp, columns, cells_in, of_list}
 use Rattle.model.specs.Constraints.{in_last, out_last, equal}
 use Rattle.model.specs.Cycles.{Claim}
 use Rattle.model.specs.State.{State}
 use Rattle.model.specs.Tests.{pick}
 use Rattle.model.specs.Trace.{in_bounds, top, is_at_least, is_grown, in_row, out_row, last_of, row_of}
 use Rattle.model.proofs.TestFacts.{equal_are, equal_self}
-use Rattle.row.specs.Plain.{from}
-use Rattle.row.proofs.PlaceLaws.{from_row}
 use Rattle.compare.specs.Same.{same_in, same_cells, rows_stand, cycle_stands}
 
 -- ---- rows
@@ -36,10 +34,9 @@ unfolding same_in equal
 same_append [] ds x y = refl
 same_append (c ∷ cs) ds x y = rw (same_append cs ds x y) (sym (and_assoc (eqb (c.cell x) (c.cell y)) (same_in cs x y) (same_in ds x y)))
 
--- a row of bytes is compared in two parts
-pub row_same : (l : List ℕ) (i : ℕ) (y : Cells)
-    → (same_in up_to_gas (from l (i * row_bytes)) y && same_in from_comp (from l (i * row_bytes)) y) ≡ same_cells (row_at l i) y
-row_same l i y = sym (same_append up_to_gas from_comp (from l (i * row_bytes)) y) ∙ ap (λ (x : Cells). same_cells x y) (from_row l i)
+-- a row is compared in two parts
+pub row_same : (x y : Cells) → (same_in up_to_gas x y && same_in from_comp x y) ≡ same_cells x y
+row_same x y = sym (same_append up_to_gas from_comp x y)
 
 -- ---- rows one after the other
 

@@ -1,24 +1,25 @@
 -- Bytes that are 0, and cells that are.
 use Prim.Native.Nat.{ℕ, ◌+◌, ◌*◌, ◌^◌, ◌<◌}
 use mathlib.Core.Bool.{Bool, true, ◌&&◌}
-use mathlib.Core.List.{List, [], ◌∷◌}
+use mathlib.Core.List.{List, [], ◌∷◌, ◌++◌}
 use mathlib.Core.Logic.{⊎_elim}
 use mathlib.Core.Path.{◌≡◌, refl, sym, ◌∙◌, ap}
-use native.Mathlib.Nat.{add_assoc, add-zero, zero-mul, one-le-pow, one-mul, mul-le-mul_right, eq-zero-or-pos}
+use native.Mathlib.Nat.{zero-add, zero-mul, one-le-pow, one-mul, mul-le-mul_right, eq-zero-or-pos}
 use native.Mathlib.Numerals.{add-one}
 use native.Mathlib.Omega.{arith}
 use borrow.Author.Tests.{eq-eqb, eqb-true}
 use lib.Dec.{eqb}
-use lib.ListN.{get_or}
-use Rattle.number.specs.Cells.{total}
+use lib.ListN.{length, get_or-append, length-append}
+use lib.Seq.{get_or-append_seam}
+use Rattle.number.specs.Cells.{total, decode}
 use Rattle.number.specs.Num.{num}
 use Rattle.number.proofs.NumLaws.{num-add}
 use Rattle.number.proofs.TestLaws.{same_test, both, both_intro}
 use Rattle.model.specs.Columns.{Cells, columns, cells_in, widths, row_bytes, of_list, empty_row, row_at}
 use Rattle.model.specs.Tests.{zeros}
 use Rattle.model.proofs.TestFacts.{zeros_are}
-use Rattle.row.specs.Plain.{cells_from}
-use Rattle.row.proofs.PlaceLaws.{from_row}
+use Rattle.model.proofs.RowBytes.{cells_row}
+use Rattle.row.proofs.RowLaws.{num_agree}
 
 -- a number in two parts is 0 where both parts are
 parts-zero : (k x y : ℕ) → 0 < k → eqb (x * k + y) 0 ≡ (eqb x 0 && eqb y 0)
@@ -40,24 +41,26 @@ pub zero-none : (l : List ℕ) (p : ℕ) → true ≡ eqb (num l p 0) 0
 unfolding num
 zero-none l p = refl
 
-pub zero_next : (l : List ℕ) (p i : ℕ) (so_far : Bool) → so_far ≡ eqb (num l p i) 0 → (so_far && eqb (get_or l (p + i) 0) 0) ≡ eqb (num l p (i + 1)) 0
+pub zero_next : (l : List ℕ) (x : ℕ) (so_far : Bool) → so_far ≡ eqb (num l 0 (length l)) 0
+    → (so_far && eqb x 0) ≡ eqb (num (l ++ (x ∷ [])) 0 (length (l ++ (x ∷ [])))) 0
 unfolding num
-zero_next l p i so_far e = rw (add-one i, e) (sym (parts-zero 256 (num l p i) (get_or l (p + i) 0) (omega arith)))
+zero_next l x so_far e =
+    let more = l ++ (x ∷ []) in
+    let before : num more 0 (length l) ≡ num l 0 (length l)
+    = num_agree more l 0 0 (length l) (λ k h. get_or-append l (x ∷ []) 0 (0 + k) (omega arith)) in
+    rw (length-append, add-one, before, zero-add, get_or-append_seam l x [] 0, e) (sym (parts-zero 256 (num l 0 (length l)) x (omega arith)))
 
 -- cells one after the other are 0 where the bytes of all of them are
-cells_zero : (ws l : List ℕ) (p o : ℕ) → eqb (num l (p + o) (total ws)) 0 ≡ zeros (cells_from ws l p o)
-unfolding num
-cells_zero [] l p o = refl
-cells_zero (w ∷ ws) l p o =
-    let parts = parts-zero (256 ^ total ws) (num l (p + o) w) (num l (p + o + w) (total ws)) (one-le-pow (total ws) 256 (omega arith)) in
-    ap (λ (n : ℕ). eqb n 0) (num-add l (p + o) w (total ws)) ∙ parts
-    ∙ ap (λ (b : Bool). eqb (num l (p + o) w) 0 && b) (ap (λ (q : ℕ). eqb (num l q (total ws)) 0) (add_assoc p o w) ∙ cells_zero ws l p (o + w))
+cells_zero : (ws l : List ℕ) (p : ℕ) → eqb (num l p (total ws)) 0 ≡ zeros (decode ws l p)
+unfolding num decode
+cells_zero [] l p = refl
+cells_zero (w ∷ ws) l p =
+    let parts = parts-zero (256 ^ total ws) (num l p w) (num l (p + w) (total ws)) (one-le-pow (total ws) 256 (omega arith)) in
+    ap (λ (n : ℕ). eqb n 0) (num-add l p w (total ws)) ∙ parts ∙ ap (λ (b : Bool). eqb (num l p w) 0 && b) (cells_zero ws l (p + w))
 
 -- a row is empty where its bytes are 0
 pub row_zero : (l : List ℕ) (i : ℕ) → eqb (num l (i * row_bytes) row_bytes) 0 ≡ zeros (cells_in columns (row_at l i))
-row_zero l i =
-    ap (λ (q : ℕ). eqb (num l q row_bytes) 0) (sym (add-zero (i * row_bytes))) ∙ cells_zero widths l (i * row_bytes) 0
-    ∙ ap (λ (x : Cells). zeros (cells_in columns x)) (from_row l i)
+row_zero l i = cells_zero widths l (i * row_bytes) ∙ ap zeros (sym (cells_row l i))
 
 -- a row whose every cell is 0 is the empty row
 pub zeros_empty : (x : Cells) → zeros (cells_in columns x) ≡ true → x ≡ empty_row

@@ -1,157 +1,90 @@
-// A row by value beside the bytes of a trace: whether every cell is the same. Cells that stand side by side are compared as one number. Only crates of this
-// repository call these functions: they ask that the row is there, and that cells of three bytes fit them. Each of the two parts of a row is small enough to
-// be inlined where it is called; one function for both would not be, and the row would go through memory.
+// A row by value beside the bytes of a row: whether every cell is the same. Cells that stand side by side are compared as one number. Only crates of this
+// repository call these functions: one asks that cells of three bytes fit them. Each of the two parts of a row is small enough to be inlined where it is called;
+// one function for both would not be, and the row would go through memory.
 #![tactic(auto)]
 
-ghost use Rattle.std.specs.Prelude.{◌&&◌, ◌≡◌, ◌+◌, ◌*◌, ◌≤◌, ◌<◌, eqb, length, take, drop};
+ghost use Rattle.std.specs.Prelude.{◌≡◌, ◌+◌, ◌≤◌, true};
+ghost use Rattle.number.specs.Cells.{total, decode};
 ghost use Rattle.number.specs.Num.{num};
-ghost use Rattle.number.specs.Whole.{val};
-ghost use Rattle.model.specs.Columns.{up_to_gas, from_comp, columns, cells_in, row_bytes, row_at};
+ghost use Rattle.model.specs.Columns.{up_to_gas, from_comp, columns, cells_in, row_bytes};
+ghost use Rattle.model.specs.Constraints.{equal};
 ghost use Rattle.model.specs.Tests.{zeros};
-ghost use Rattle.row.specs.Plain.{from, plain};
+ghost use Rattle.row.specs.Group.{at_once};
+ghost use Rattle.row.specs.Plain.{plain};
 ghost use Rattle.compare.specs.Narrow.{Narrow};
 ghost use Rattle.compare.specs.Same.{same_in};
 
-use cell::join::{join_1_1, join_1_3, join_2_6, join_3_3, join_4_4};
-use cell::read::{u8_at, u16_at, u24_at, u32_at, u48_at, u64_at};
+use cell::read::{u16_at, u24_at, u32_at, u64_at, wide_at};
 use model::ROW_BYTES;
-use number::wide::Wide;
 use row::cells::Row;
+use row::group::Group;
 use row::place;
+use row::three::Three;
+use row::view::RowBytes;
 
-// Whether these cells stand side by side, the first of them o bytes after p.
-
-fn is_1_1(t: &[u8], p: usize, o: usize, a: u8, b: u8) -> bool
-    requires { p + o + 2 ≤ length t.now }
-    ensures { result ≡ (eqb (num t.now (p + o) 1) a && eqb (num t.now (p + (o + 1)) 1) b) }
+// The number in `width` bytes of a row, from `at` on. The width is a constant of a group's type, so that one of the three is left where the call is compiled.
+fn number_at(row: &[u8; ROW_BYTES], at: usize, width: usize) -> u64
+    requires there { at + width ≤ row_bytes }
+    requires once { at_once width ≡ true }
+    ensures { result ≡ num row.now at width }
 {
-    u16_at(t, p + o) == join_1_1(a, b)
+    match width {
+        2 => u64::from(u16_at(row, at)),
+        4 => u64::from(u32_at(row, at)),
+        _ => u64_at(row, at),
+    }
 }
 
-fn is_1_3(t: &[u8], p: usize, o: usize, a: u8, b: u32) -> bool
-    requires o_in_bounds { p + o + 4 ≤ length t.now }
-    requires b_bound { b < 16777216 }
-    ensures { result ≡ (eqb (num t.now (p + o) 1) a && eqb (num t.now (p + (o + 1)) 3) b) }
+// Whether these cells stand side by side in a row, the first of them at `at`.
+fn cells_are<C: Group>(row: &[u8; ROW_BYTES], at: usize, cells: C) -> bool
+    requires there { at + total C.widths ≤ row_bytes }
+    requires once { at_once (total C.widths) ≡ true }
+    ensures { result ≡ equal (decode C.widths row.now at) (C.values cells) }
 {
-    u32_at(t, p + o) == join_1_3(a, b)
+    number_at(row, at, C::width()) == cells.behind(0)
 }
 
-fn is_3_3(t: &[u8], p: usize, o: usize, a: u32, b: u32) -> bool
-    requires o_in_bounds { p + o + 8 ≤ length t.now }
-    requires b_bound { b < 16777216 }
-    ensures { result ≡ (eqb (num t.now (p + o) 3) a && eqb (num t.now (p + (o + 3)) 3) b) }
+// Whether the row has the cells of x up to GAS.
+pub fn up_to_gas_is(row: &RowBytes, x: Row) -> bool
+    ensures { result ≡ same_in up_to_gas row.now (plain x) }
 {
-    u48_at(t, p + o) == join_3_3(a, b)
-}
-
-fn is_4_4(t: &[u8], p: usize, o: usize, a: u32, b: u32) -> bool
-    requires { p + o + 8 ≤ length t.now }
-    ensures { result ≡ (eqb (num t.now (p + o) 4) a && eqb (num t.now (p + (o + 4)) 4) b) }
-{
-    u64_at(t, p + o) == join_4_4(a, b)
-}
-
-fn is_1_3_4(t: &[u8], p: usize, o: usize, a: u8, b: u32, c: u32) -> bool
-    requires o_in_bounds { p + o + 8 ≤ length t.now }
-    requires b_bound { b < 16777216 }
-    ensures { result ≡ ((eqb (num t.now (p + o) 1) a && eqb (num t.now (p + (o + 1)) 3) b)
-        && eqb (num t.now (p + (o + 4)) 4) c) }
-{
-    u64_at(t, p + o) == join_4_4(join_1_3(a, b), c)
-}
-
-fn is_1_1_3_3(t: &[u8], p: usize, o: usize, a: u8, b: u8, c: u32, d: u32) -> bool
-    requires o_in_bounds { p + o + 8 ≤ length t.now }
-    requires c_bound { c < 16777216 }
-    requires d_bound { d < 16777216 }
-    ensures { result ≡ ((eqb (num t.now (p + o) 1) a && eqb (num t.now (p + (o + 1)) 1) b)
-        && (eqb (num t.now (p + (o + 2)) 3) c && eqb (num t.now (p + (o + 2 + 3)) 3) d)) }
-{
-    u64_at(t, p + o) == join_2_6(join_1_1(a, b), join_3_3(c, d))
-}
-
-fn is_wide(t: &[u8], p: usize, a: Wide) -> bool
-    requires { p + 17 ≤ length t.now }
-    ensures { result ≡ eqb (num t.now p 17) (val a) }
-{
-    (u8_at(t, p) == a.top) & (u64_at(t, p + 1) == a.hi) & (u64_at(t, p + 9) == a.lo)
-}
-
-// Parts of the row whose first byte is at p, beside those of x: the cells up to END2, and from BYTE1 to GAS.
-
-fn up_to_end2_is(t: &[u8], p: usize, x: Row) -> bool
-    requires { p + row_bytes ≤ length t.now }
-    ensures { result ≡ same_in (take 6 up_to_gas) (from t.now p) (plain x) }
-{
-    let end1 = x.head.end1;
-    let end2 = x.head.end2;
-    is_4_4(t, p, place::STAMP, x.head.stamp, x.head.cn)
-        & is_1_1(t, p, place::OOOB, x.head.ooob, x.head.ct)
-        & is_wide(t, p + place::END1, end1)
-        & is_wide(t, p + place::END2, end2)
-}
-
-fn from_byte1_is(t: &[u8], p: usize, x: Row) -> bool
-    requires row_bytes_in_bounds { p + row_bytes ≤ length t.now }
-    requires narrow { Narrow (plain x) }
-    ensures { result ≡ same_in (drop 6 up_to_gas) (from t.now p) (plain x) }
-{
-    let acc1 = x.head.acc1;
-    is_1_1(t, p, place::BYTE1, x.head.byte1, x.head.byte2)
-        & is_wide(t, p + place::ACC1, acc1)
-        & (u24_at(t, p + place::ACC2) == x.head.acc2)
-        & is_3_3(t, p, place::MEM, x.body.mem, x.body.memn)
-        & is_4_4(t, p, place::COST, x.body.cost, x.body.costn)
-        & (u32_at(t, p + place::GAS) == x.body.gas)
-}
-
-// Whether the row whose first byte is at p has the cells of x up to GAS.
-pub fn up_to_gas_is(t: &[u8], p: usize, x: Row) -> bool
-    requires row_bytes_in_bounds { p + row_bytes ≤ length t.now }
-    requires narrow { Narrow (plain x) }
-    ensures { result ≡ same_in up_to_gas (from t.now p) (plain x) }
-{
-    up_to_end2_is(t, p, x) & from_byte1_is(t, p, x)
+    let bytes = row.bytes();
+    let (head, body) = (x.head, x.body);
+    cells_are(bytes, place::STAMP, (head.stamp, head.cn))
+        & cells_are(bytes, place::OOOB, (head.ooob, head.ct))
+        & (wide_at(bytes, place::END1) == head.end1)
+        & (wide_at(bytes, place::END2) == head.end2)
+        & cells_are(bytes, place::BYTE1, (head.byte1, head.byte2))
+        & (wide_at(bytes, place::ACC1) == head.acc1)
+        & (u24_at(bytes, place::ACC2) == head.acc2)
+        & (u24_at(bytes, place::MEM) == body.mem)
+        & (u24_at(bytes, place::MEMN) == body.memn)
+        & cells_are(bytes, place::COST, (body.cost, body.costn))
+        & (u32_at(bytes, place::GAS) == body.gas)
 }
 
 // Whether it has those from COMP on.
-pub fn from_comp_is(t: &[u8], p: usize, x: Row) -> bool
-    requires row_bytes_in_bounds { p + row_bytes ≤ length t.now }
-    requires narrow { Narrow (plain x) }
-    ensures { result ≡ same_in from_comp (from t.now p) (plain x) }
+pub fn from_comp_is(row: &RowBytes, x: Row) -> bool
+    requires { Narrow (plain x) }
+    ensures { result ≡ same_in from_comp row.now (plain x) }
 {
-    is_1_1_3_3(
-        t,
-        p,
-        place::COMP,
-        x.body.comp,
-        x.body.dbyte,
-        x.body.dacc,
-        x.body.endmax,
-    ) & is_1_1_3_3(
-        t,
-        p,
-        place::FLAG,
-        x.body.flag,
-        x.tail.ebyte,
-        x.tail.eacc,
-        x.tail.q1,
-    ) & is_1_3_4(t, p, place::Q1BYTE, x.tail.q1byte, x.tail.q1acc, x.tail.q2)
-        & is_1_3(t, p, place::Q2BYTE, x.tail.q2byte, x.tail.q2acc)
-        & is_1_1(t, p, place::AUX1, x.tail.aux1, x.tail.aux2)
+    let bytes = row.bytes();
+    let (body, tail) = (x.body, x.tail);
+    let dacc_endmax = (Three::new(body.dacc), Three::new(body.endmax));
+    let eacc_q1 = (Three::new(tail.eacc), Three::new(tail.q1));
+    let q1byte_q1acc = (tail.q1byte, Three::new(tail.q1acc));
+    cells_are(bytes, place::COMP, ((body.comp, body.dbyte), dacc_endmax))
+        & cells_are(bytes, place::FLAG, ((body.flag, tail.ebyte), eacc_q1))
+        & cells_are(bytes, place::Q1BYTE, (q1byte_q1acc, tail.q2))
+        & cells_are(bytes, place::Q2BYTE, (tail.q2byte, Three::new(tail.q2acc)))
+        & cells_are(bytes, place::AUX1, (tail.aux1, tail.aux2))
 }
 
-// Whether every cell of row i is 0.
-pub fn is_empty(t: &[u8], i: usize) -> bool
-    requires { (i + 1) * row_bytes ≤ length t.now }
-    ensures { result ≡ zeros (cells_in columns (row_at t.now i)) }
+// Whether every cell of the row is 0.
+pub fn is_empty(row: &RowBytes) -> bool
+    ensures { result ≡ zeros (cells_in columns row.now) }
 {
-    let p = i * ROW_BYTES;
-    let mut zero = true;
-    let mut k: usize = 0;
-    while k < ROW_BYTES {
-        zero = zero & (t[p + k] == 0);
-        k += 1;
-    }
-    zero
+    row.bytes()
+        .iter()
+        .fold(true, |zero, byte| zero & (*byte == 0))
 }

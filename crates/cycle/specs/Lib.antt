@@ -1,2 +1,3 @@
 -- The definitions of `cycle`.
+pub mod Within
 pub mod Made

@@ -1,170 +1,128 @@
-// The cycle of an in-bounds claim: three rows.
-ghost use Rattle.std.specs.Prelude.{true, ◌≡◌, suc, ◌+◌, ◌*◌, ◌≤◌, length};
-ghost use Rattle.std.proofs.lemmas.List.Edits.{sets};
-ghost use Rattle.model.specs.Columns.{row_bytes, row_at, bytes_of};
+// The cycle of an in-bounds claim: three rows, and what they are made from.
+ghost use Rattle.std.specs.Prelude.{true, ◌≡◌, ⊤, suc};
 ghost use Rattle.model.specs.Constraints.{in_last};
-ghost use Rattle.model.specs.State.{Sound};
-ghost use Rattle.model.specs.Trace.{in_bounds, cycle_of};
-ghost use Rattle.row.specs.Plain.{HeadOf, BodyOf, TailOf, plain};
-ghost use Rattle.compare.specs.Same.{same_cells, cycle_stands};
+ghost use Rattle.model.specs.Trace.{in_bounds, top};
+ghost use Rattle.row.specs.Plain.{HeadOf, BodyOf, TailOf};
 ghost use Rattle.state.specs.Plain.{state};
 ghost use Rattle.claim.specs.Told.{plain_claim};
-ghost use Rattle.cycle.specs.Made.{MadeOf, within_row};
+ghost use Rattle.growth.specs.Numbers.{EndsOf, GrowthOf};
+ghost use Rattle.cycle.specs.Within.{within_row};
 
+use crate::Cycle;
 use crate::digits::{digit, in_rows, prefix};
-use claim::claim::Claim;
-use compare::{from_comp_is, up_to_gas_is};
+use beyond::rows::Rows;
 use growth::{Ends, Growth, ends_of, growth_of};
-use model::{IN_LAST, ROW_BYTES};
+use model::IN_LAST;
 use number::FIRST_OF_FOUR;
-use number::wide::small;
+use number::wide::Wide;
 use row::cells::{Body, Head, Row, Tail};
-use state::State;
-use writer::put_row;
 
-// What the rows of a cycle are made from.
+// How many rows the cycle has.
+pub(crate) const ROWS: u8 = IN_LAST + 1;
+
+// An in-bounds cycle, and what its rows are made from.
 #[derive(Clone, Copy)]
-struct Made {
-    stamp: u32,
-    before: State,
-    claim: Claim,
+pub(crate) struct Made {
+    pub(crate) cycle: Cycle,
     ends: Ends,
     growth: Growth,
+    ghost within: { in_bounds (plain_claim cycle.claim) ≡ true },
+    ghost ends_are: { EndsOf (plain_claim cycle.claim) ends },
+    ghost growth_is: { GrowthOf (state cycle.before) (top (plain_claim cycle.claim)) growth },
 }
 
-fn make(stamp: u32, s: State, c: Claim) -> Made
-    requires sound { Sound (state s) }
-    requires c_value { in_bounds (plain_claim c) ≡ true }
-    ensures { MadeOf stamp s c result }
-{
-    let ends = ends_of(c);
-    let growth = growth_of(s, ends.top);
-    Made {
-        stamp,
-        before: s,
-        claim: c,
-        ends,
-        growth,
-    }
-}
-
-// The parts of row i, and the row.
-
-fn head_of(m: Made, i: u8) -> Head
-    requires { MadeOf m.stamp m.before m.claim m }
-    ensures { HeadOf (within_row m.stamp m.before m.claim i) result }
-{
-    let c = m.claim;
-    let e = m.ends;
-    let end1 = c.end1;
-    let end2 = c.end2;
-    Head {
-        stamp: m.stamp,
-        cn: c.context.cn,
-        ooob: 0,
-        ct: i,
-        end1,
-        end2,
-        byte1: digit(e.end1.0, i),
-        byte2: digit(e.end2.0, i),
-        acc1: small(prefix(e.end1.0, i) as u64),
-        acc2: prefix(e.end2.0, i),
-    }
-}
-
-fn body_of(m: Made, i: u8) -> Body
-    requires { MadeOf m.stamp m.before m.claim m }
-    ensures { BodyOf (within_row m.stamp m.before m.claim i) result }
-{
-    let e = m.ends;
-    let g = m.growth;
-    Body {
-        mem: m.before.mem.0,
-        memn: g.after.mem.0,
-        cost: m.before.cost.0 as u32,
-        costn: g.after.cost.0 as u32,
-        gas: g.gas.0 as u32,
-        comp: e.comp,
-        dbyte: digit(e.apart.0, i),
-        dacc: prefix(e.apart.0, i),
-        endmax: e.top.0,
-        flag: g.flag,
-    }
-}
-
-fn tail_of(m: Made, i: u8) -> Tail
-    requires { MadeOf m.stamp m.before m.claim m }
-    ensures { TailOf (within_row m.stamp m.before m.claim i) result }
-{
-    let g = m.growth;
-    let q2 = g.square.q2 as u32;
-    let low = q2 % FIRST_OF_FOUR;
-    let high = (q2 / FIRST_OF_FOUR) as u8;
-    Tail {
-        ebyte: digit(g.above.0, i),
-        eacc: prefix(g.above.0, i),
-        q1: g.word.0,
-        q1byte: digit(g.word.0, i),
-        q1acc: prefix(g.word.0, i),
-        q2,
-        q2byte: digit(low, i),
-        q2acc: prefix(low, i),
-        aux1: in_rows(0, g.lifted, g.byte, i),
-        aux2: in_rows(g.square.e, high, g.square.low, i),
-    }
-}
-
-fn row_of(m: Made, i: u8) -> Row
-    requires { MadeOf m.stamp m.before m.claim m }
-    ensures { plain result ≡ within_row m.stamp m.before m.claim i }
-{
-    Row {
-        head: head_of(m, i),
-        body: body_of(m, i),
-        tail: tail_of(m, i),
-    }
-}
-
-// Writes the cycle from this row on.
-pub(crate) fn put_within(buf: &mut [u8], row: usize, stamp: u32, s: State, c: Claim)
-    requires row_bytes_in_bounds { (row + suc in_last) * row_bytes ≤ length buf.old }
-    requires sound { Sound (state s) }
-    requires c_value { in_bounds (plain_claim c) ≡ true }
-    ensures { buf.new ≡ sets buf.old (row * row_bytes) (bytes_of (cycle_of stamp (state s) (plain_claim c))) }
-{
-    let m = make(stamp, s, c);
-    let mut i: u8 = 0;
-    while i <= IN_LAST {
-        put_row(buf, row + i as usize, row_of(m, i));
-        i += 1;
-    }
-}
-
-// Whether row k of a trace is row i of the cycle.
-fn in_is(t: &[u8], k: usize, m: Made, i: u8) -> bool
-    requires row_bytes_in_bounds { (k + 1) * row_bytes ≤ length t.now }
-    requires made_of { MadeOf m.stamp m.before m.claim m }
-    ensures { result ≡ same_cells (row_at t.now k) (within_row m.stamp m.before m.claim i) }
-{
-    let p = k * ROW_BYTES;
-    let x = row_of(m, i);
-    up_to_gas_is(t, p, x) & from_comp_is(t, p, x)
-}
-
-// Whether the cycle stands in a trace from this row on.
-pub(crate) fn within_is(t: &[u8], row: usize, stamp: u32, s: State, c: Claim) -> bool
-    requires row_bytes_in_bounds { (row + suc in_last) * row_bytes ≤ length t.now }
-    requires sound { Sound (state s) }
-    requires c_value { in_bounds (plain_claim c) ≡ true }
-    ensures { result ≡ cycle_stands (row_at t.now) row stamp (state s) (plain_claim c) }
-{
-    let m = make(stamp, s, c);
-    let mut j: u8 = 0;
-    while j <= IN_LAST {
-        if !in_is(t, row + j as usize, m, j) {
-            return false;
+impl Made {
+    pub(crate) fn of(cycle: Cycle) -> Made
+        requires { in_bounds (plain_claim cycle.claim) ≡ true }
+        ensures { result.cycle ≡ cycle }
+    {
+        let ends = ends_of(cycle.claim);
+        let growth = growth_of(cycle.before, ends.top);
+        Made {
+            cycle,
+            ends,
+            growth,
         }
-        j += 1;
     }
-    true
+
+    // The parts of row i.
+
+    #[tactic(auto, unfolding(model::specs::Trace::in_row))]
+    fn head(self, i: u8) -> Head
+        ensures { HeadOf (within_row self.cycle i) result }
+    {
+        let c = self.cycle.claim;
+        let e = self.ends;
+        let end1 = c.end1;
+        let end2 = c.end2;
+        Head {
+            stamp: self.cycle.stamp,
+            cn: c.context.cn,
+            ooob: 0,
+            ct: i,
+            end1,
+            end2,
+            byte1: digit(e.end1.0, i),
+            byte2: digit(e.end2.0, i),
+            acc1: Wide::from(u64::from(prefix(e.end1.0, i))),
+            acc2: prefix(e.end2.0, i),
+        }
+    }
+
+    fn body(self, i: u8) -> Body
+        ensures { BodyOf (within_row self.cycle i) result }
+    {
+        let before = self.cycle.before;
+        let e = self.ends;
+        let g = self.growth;
+        Body {
+            mem: before.mem.0,
+            memn: g.after.mem.0,
+            cost: before.cost.0 as u32,
+            costn: g.after.cost.0 as u32,
+            gas: g.gas.0 as u32,
+            comp: u8::from(e.comp),
+            dbyte: digit(e.apart.0, i),
+            dacc: prefix(e.apart.0, i),
+            endmax: e.top.0,
+            flag: u8::from(g.flag),
+        }
+    }
+
+    fn tail(self, i: u8) -> Tail
+        ensures { TailOf (within_row self.cycle i) result }
+    {
+        let g = self.growth;
+        let q2 = g.square.q2 as u32;
+        let low = q2 % FIRST_OF_FOUR;
+        let high = (q2 / FIRST_OF_FOUR) as u8;
+        Tail {
+            ebyte: digit(g.above.0, i),
+            eacc: prefix(g.above.0, i),
+            q1: g.word.0,
+            q1byte: digit(g.word.0, i),
+            q1acc: prefix(g.word.0, i),
+            q2,
+            q2byte: digit(low, i),
+            q2acc: prefix(low, i),
+            aux1: in_rows(0, g.lifted, g.byte, i),
+            aux2: in_rows(g.square.e, high, g.square.low, i),
+        }
+    }
+}
+
+impl Rows for Made {
+    ghost cells = { λ m. within_row m.cycle };
+
+    ghost count = { suc in_last };
+
+    ghost at = { λ m i. ⊤ };
+
+    fn make(&mut self, i: u8) -> Row {
+        Row {
+            head: self.head(i),
+            body: self.body(i),
+            tail: self.tail(i),
+        }
+    }
 }

@@ -9,6 +9,7 @@ use borrow.Author.Tests.{eq-eqb, ne_eqb, eqb-false, lt-ltb, le-ltb, ltb-false}
 use lib.Dec.{eqb, ltb}
 use lib.ListN.{length, take, drop, replicate, length-replicate}
 use lib.Seq.{sets, sets-eq, take_at}
+use Rattle.std.specs.Prelude.{Ok, Err}
 use Rattle.number.specs.Tests.{pick}
 use Rattle.number.proofs.StoreLaws.{sets-append}
 use Rattle.number.proofs.TestLaws.{clash}
@@ -25,7 +26,6 @@ use Rattle.claim.specs.Claims.{claim_of}
 use Rattle.claim.specs.Instruction.{Instruction}
 use Rattle.list.specs.List.{Listed, instructions, refused_in, read_list}
 use Rattle.lines.specs.Lines.{max_list, rows_of_claims, Lists, claims_listed, list_claims, told_measured}
-use Rattle.lines.specs.declared.Measured.TheVariants as measured
 use Rattle.filler.specs.Fill.{written, refused, placed, filled, outcome, buffer_after}
 
 -- ---- a text
@@ -49,11 +49,11 @@ module _ (t : List ℕ) (empty room : ℕ) where
       outcome_read = rw (le-ltb max_list (length t) short, ne_eqb empty 0 (ne_of_gt some))
 
       -- where its first reading is a refusal, this is the answer
-      pub outcome_refused : {w : Refusal} → told_measured (read_list 1 t) ≡ measured.Refused w
+      pub outcome_refused : {w : Refusal} → told_measured (read_list 1 t) ≡ Err w
           → (n : ℕ) × (l : ℕ) × (outcome t empty room ≡ refused n l) × (w ≡ in_line n l)
       outcome_refused {w} = by (read_list 1 t) refl
         where
-          by : (x : Listed) → read_list 1 t ≡ x → told_measured x ≡ measured.Refused w → (n : ℕ) × (l : ℕ) × (outcome t empty room ≡ refused n l) × (w ≡ in_line n l)
+          by : (x : Listed) → read_list 1 t ≡ x → told_measured x ≡ Err w → (n : ℕ) × (l : ℕ) × (outcome t empty room ≡ refused n l) × (w ≡ in_line n l)
           by (instructions is) e h = clash cc
           by (refused_in n l at) e h = (n, l, outcome_read ∙ ap (filled empty room) e, cc)
 
@@ -62,10 +62,10 @@ module _ (t : List ℕ) (empty room : ℕ) where
       outcome_lists h = rw (outcome_read, h.read)
 
 -- a text whose reading counts rows is a list, and its cycles have these rows
-pub measured_lists : (t : List ℕ) {n : ℕ} → told_measured (read_list 1 t) ≡ measured.Rows n → Lists t × (n ≡ rows_of_claims (list_claims t))
+pub measured_lists : (t : List ℕ) {n : ℕ} → told_measured (read_list 1 t) ≡ Ok n → Lists t × (n ≡ rows_of_claims (list_claims t))
 measured_lists t {n} = by (read_list 1 t) refl
   where
-    by : (x : Listed) → read_list 1 t ≡ x → told_measured x ≡ measured.Rows n → Lists t × (n ≡ rows_of_claims (claims_listed x))
+    by : (x : Listed) → read_list 1 t ≡ x → told_measured x ≡ Ok n → Lists t × (n ≡ rows_of_claims (claims_listed x))
     by (instructions is) e h = (record { each = is; read = e }, cc)
     by (refused_in m l at) e h = clash cc
 

@@ -1,14 +1,14 @@
 -- What the filler's answer says: what it has done, and document 01's numbers for each case.
-use Rattle.std.specs.Prelude.{ℕ, length}
+use Rattle.std.specs.Prelude.{ℕ, Result, Ok, Err, length}
+use Rattle.refusal.specs.Refusals as refusal
 use Rattle.refusal.specs.Refusals.{in_line}
+use Rattle.refusal.specs.declared.Refusal.{Refusal}
 use Rattle.filler.specs.Fill.{Outcome, written, refused}
-use Rattle.filler.specs.declared.Filled.{Filled}
-use Rattle.filler.specs.declared.Filled.TheVariants.{Rows, Refused}
 
 -- the answer that tells what was done
-abbrev pub told : Outcome → Filled
-told (written rows) = Rows (length rows)
-told (refused n l) = Refused (in_line n l)
+abbrev pub told : Outcome → Result ℕ Refusal
+told (written rows) = Ok (length rows)
+told (refused n l) = Err (in_line n l)
 
 -- the numbers that document 01 speaks of
 pub record Numbers : Type 0 where
@@ -17,6 +17,6 @@ pub record Numbers : Type 0 where
   pub rows : ℕ
 
 -- It answers the rows written. On a refusal all other result fields are 0.
-abbrev pub numbers : Filled → Numbers
-numbers (Rows n) = record { refused = 0; line = 0; rows = n }
-numbers (Refused r) = record { refused = r.number; line = r.line; rows = 0 }
+abbrev pub numbers : Result ℕ Refusal → Numbers
+numbers (Ok n) = record { refused = 0; line = 0; rows = n }
+numbers (Err r) = record { refused = refusal.number r; line = refusal.line r; rows = 0 }

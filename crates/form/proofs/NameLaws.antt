@@ -1,7 +1,9 @@
 -- Laws of names: their characters one by one, and all of them as one number.
 use Prim.Native.Nat.{ℕ, zero, suc, ◌+◌, ◌*◌, ◌/◌, ◌%◌, ◌^◌, ◌≤◌, ◌<◌}
 use mathlib.Core.List.{List}
-use mathlib.Core.Path.{◌≡◌, ◌∙◌}
+use mathlib.Core.Path.{◌≡◌, refl, ◌∙◌}
+use Rattle.std.proofs.Math.Pow.{pow-lt}
+use Rattle.std.proofs.lemmas.Nat.{pow-add}
 use native.Mathlib.Nat.{add-zero, suc-add, mul_assoc, one-le-pow, pow-suc, div-add-mod', mod-lt, mod-eq_of_lt, mul-add-mod_self_right}
 use native.Mathlib.Omega.{arith}
 use borrow.Author.Tests.{eq-eqb, ne_eqb}
@@ -39,3 +41,19 @@ module _ (t : List ℕ) where
       let place : p + suc n ≡ suc p + n = omega arith in
       rw place
       (char_agrees n v p (char_in t p (omega arith) ∙ parts.0) ∙ name_stands bytes n k (v / 256) (suc p) (omega arith) parts.1)
+
+-- ---- 256 to the power of a name's characters
+
+byte_pow : (n : ℕ) → 2 ^ (8 * n) ≡ 256 ^ n
+byte_pow zero = refl
+byte_pow (suc n) =
+    let bits : 8 * suc n ≡ 8 * n + 8 = omega arith in
+    let more : 256 ^ suc n ≡ 256 ^ n * 256 = rw pow-suc in
+    rw (bits, pow-add, byte_pow n, more)
+
+-- as one bit moved up, which a name is short enough for
+pub bound_is : (n : ℕ) → n < 8 → 1 * 2 ^ (8 * n) % 2 ^ 64 ≡ 256 ^ n
+bound_is n h =
+    let one : 1 * 2 ^ (8 * n) ≡ 2 ^ (8 * n) = omega arith in
+    let less : 2 ^ (8 * n) < 2 ^ 64 = pow-lt {i = 8 * n} {j = 64} (omega arith) in
+    rw (one, mod-eq_of_lt {n = 2 ^ (8 * n)} {m = 2 ^ 64} less, byte_pow n)

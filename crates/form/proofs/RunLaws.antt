@@ -1,23 +1,24 @@
 -- Laws of runs of digits: how one goes on past a first part, how a loop reads it by the table, and the room for its number.
-use Prim.Native.Nat.{ℕ, zero, suc, ◌+◌, ◌*◌, ◌-◌, ◌^◌, ◌≤◌, ◌<◌}
+use Prim.Native.Nat.{ℕ, zero, suc, ◌+◌, ◌*◌, ◌-◌, ◌^◌, ◌≤◌, ◌<◌, min}
 use mathlib.Core.Bool.{Bool, true, false}
 use mathlib.Core.List.{List}
 use mathlib.Core.Path.{◌≡◌, refl, sym, ◌∙◌, ap}
 use native.Mathlib.Nat.{zero-add, suc-add, pow-suc, pow-le-pow_right}
 use native.Mathlib.Numerals.{add-one}
 use native.Mathlib.Omega.{arith}
-use borrow.Author.Tests.{ltb-true, ltb-false, eq-eqb, ne_eqb}
-use lib.Dec.{eqb, ltb}
-use lib.ListN.{length}
+use borrow.Author.Tests.{ltb-true, ltb-false, leb-true, leb-false, eq-eqb, ne_eqb}
+use lib.Dec.{ltb, leb}
+use lib.ListN.{length, get_or}
+use Rattle.std.specs.Prelude.{Some, None}
 use Rattle.long.specs.Halves.{whole}
 use Rattle.long.specs.declared.Long.{Long}
 use Rattle.number.specs.Tests.{pick}
 use Rattle.form.specs.Hex.{code_0, is_digit, digit_of}
 use Rattle.form.specs.Read.{got, stop, char_at, Run, run, last_place, read_digits, read_number}
-use Rattle.form.specs.Table.{counts}
+use Rattle.form.specs.Table.{counts, digit_in}
 use Rattle.form.proofs.ReadLaws.{run_on, run_ends}
-use Rattle.form.proofs.StepLaws.{no_digit_past, too_few, enough}
-use Rattle.form.proofs.TableLaws.{no_digit, a_digit}
+use Rattle.form.proofs.StepLaws.{char_in, no_digit_past, too_few, enough}
+use Rattle.form.proofs.TableLaws.{digit_some, digit_none, some_digit}
 
 -- ---- runs
 
@@ -80,19 +81,21 @@ module _ (t : List ℕ) (most v p : ℕ) where
 
   module _ {value at : ℕ} (r : Running t most v p value at) where
     -- a digit is read
-    pub running_next : at < last_place t p most → counts (char_at t at) ≤ 15 → Running t most v p (value * 16 + counts (char_at t at)) (at + 1)
-    running_next h d =
-        let digit = a_digit (char_at t at) d in
-        let more : p + most - at ≡ suc (p + most - (at + 1)) = omega arith in
+    pub running_next : {d : ℕ} → at < last_place t p most → digit_in (get_or t at 0) ≡ Some d → Running t most v p (value * 16 + d) (at + 1)
+    running_next {d} h e =
+        let digit = digit_some (char_at t at) {d = d} (rw (char_in t at (omega (arith, r.from))) e) in
+        let more : p + most - at ≡ suc (p + most - (at + 1)) = omega (arith, r.from) in
         record {
           from = omega (arith, r.from);
           within = omega arith;
-          rest = rw (digit.1, add-one at) (sym (run_on t (p + most - suc at) value at digit.0) ∙ rw (more, add-one at) at r.rest);
+          rest = rw (← digit.1, add-one at) (sym (run_on t (p + most - suc at) value at digit.0) ∙ rw (more, add-one at) at r.rest);
         }
 
     -- there is none: the run ends
-    pub running_ends : 15 < counts (char_at t at) → record { value = value; next = at } ≡ run most t v p
-    running_ends d = sym (run_ends t (p + most - at) value at (no_digit (char_at t at) d)) ∙ r.rest
+    pub running_ends : at < last_place t p most → digit_in (get_or t at 0) ≡ None → record { value = value; next = at } ≡ run most t v p
+    running_ends h e =
+        let none = digit_none (char_at t at) (rw (char_in t at (omega (arith, r.from))) e) in
+        sym (run_ends t (p + most - at) value at none) ∙ r.rest
 
     -- and it ends at the last place
     pub running_last : last_place t p most ≤ at → record { value = value; next = at } ≡ run most t v p
@@ -104,11 +107,6 @@ module _ (t : List ℕ) (p : ℕ) where
   -- without a digit there is no number
   digits-none : (least most : ℕ) → is_digit (char_at t p) ≡ false → stop p ≡ read_digits (suc least) most t p
   digits-none least most e = too_few (suc least) most t p (record { value = 0; next = p }) (sym (run_ends t most 0 p e)) (omega arith)
-
-  -- nor past the end of the text
-  pub number_past : (most : ℕ) → length t ≤ p → stop p ≡ read_number most t p
-  unfolding read_number
-  number_past most h = digits-none 0 (pick (eqb (char_at t p) code_0) 1 most) (no_digit_past t p h)
 
   -- a zero in front stands alone
   pub number-zero : (most : ℕ) → char_at t p ≡ code_0 → got 0 (p + 1) ≡ read_number most t p
@@ -126,30 +124,73 @@ module _ (t : List ℕ) (p : ℕ) where
   pub pair_none : is_digit (char_at t p) ≡ false → stop p ≡ read_digits 2 2 t p
   pair_none e = digits-none 1 2 e
 
-  pub pair_one : counts (char_at t p) ≤ 15 → is_digit (char_at t (p + 1)) ≡ false → stop (p + 1) ≡ read_digits 2 2 t p
+  pub pair_one : {a : ℕ} → digit_in (char_at t p) ≡ Some a → is_digit (char_at t (p + 1)) ≡ false → stop (p + 1) ≡ read_digits 2 2 t p
   pair_one h e =
-      let first = run_on t 1 0 p (a_digit (char_at t p) h).0 in
+      let first = run_on t 1 0 p (digit_some (char_at t p) h).0 in
       let last = run_ends t 1 (0 * 16 + digit_of (char_at t p)) (suc p) (rw add-one at e) in
       rw add-one (too_few 2 2 t p (record { value = 0 * 16 + digit_of (char_at t p); next = suc p }) (sym (first ∙ last)) (omega arith))
 
-  pub pair_both : counts (char_at t p) ≤ 15 → counts (char_at t (p + 1)) ≤ 15
-      → got (counts (char_at t p) * 16 + counts (char_at t (p + 1))) (p + 1 + 1) ≡ read_digits 2 2 t p
+  pub pair_told : {a b : ℕ} → digit_in (char_at t p) ≡ Some a → digit_in (char_at t (p + 1)) ≡ Some b → got (a * 16 + b) (p + 1 + 1) ≡ read_digits 2 2 t p
   unfolding run
-  pair_both h l =
-      let a = a_digit (char_at t p) h in
-      let b = a_digit (char_at t (suc p)) (rw add-one at l) in
+  pair_told h l =
+      let a = digit_some (char_at t p) h in
+      let b = digit_some (char_at t (suc p)) (rw add-one at l) in
       let first = run_on t 1 0 p a.0 in
       let last = run_on t 0 (0 * 16 + digit_of (char_at t p)) (suc p) b.0 in
       let value : 0 * 16 + digit_of (char_at t p) ≡ digit_of (char_at t p) = omega arith in
-      rw (add-one, add-one, a.1, b.1)
+      rw (add-one, add-one, ← a.1, ← b.1)
       (enough 2 2 t p (record { value = digit_of (char_at t p) * 16 + digit_of (char_at t (suc p)); next = suc (suc p) }) (sym (first ∙ last ∙ ap (λ (x : ℕ). record { value = x * 16 + digit_of (char_at t (suc p)); next = suc (suc p) }) value)) (omega arith))
 
--- ---- two halves
+  -- and by what the table counts for both
+  pub pair_both : counts (char_at t p) ≤ 15 → counts (char_at t (p + 1)) ≤ 15
+      → got (counts (char_at t p) * 16 + counts (char_at t (p + 1))) (p + 1 + 1) ≡ read_digits 2 2 t p
+  pair_both h l = pair_told (sym (some_digit (char_at t p) h)) (sym (some_digit (char_at t (p + 1)) l))
 
--- a number of less than 16 digits has room for one more in one half
-pub half_room : (v k : ℕ) → v < 16 ^ k → k < 16 → v < 2 ^ 60
-half_room v k h l =
-    let m : 16 ^ k ≤ 16 ^ 15 = pow-le-pow_right {n = 16} (omega arith) {i = k} {j = 15} (omega arith) in
+-- ---- a first part of 16 digits, and what comes behind it
+
+module _ (t : List ℕ) where
+  -- a run is no longer than it may be
+  run_within : (n v p : ℕ) → (run n t v p).next ≤ p + n
+  unfolding run
+  run_within zero v p = omega arith
+  run_within (suc n) v p = by (is_digit (char_at t p)) (run_within n (after t v p) (suc p))
+    where
+      by : (b : Bool) → (run n t (after t v p) (suc p)).next ≤ suc p + n
+          → (pick b (run n t (after t v p) (suc p)) (record { value = v; next = p })).next ≤ p + suc n
+      by true h = omega arith
+      by false h = omega arith
+
+  -- where fewer than 16 were read, they are all of it
+  pub run_first : (most p : ℕ) {r : Run} → r ≡ run (min most 16) t 0 p → r.next < p + 16 → r ≡ run most t 0 p
+  run_first most p {r} e h = by (leb 16 most) refl
+    where
+      by : (b : Bool) → leb 16 most ≡ b → r ≡ run most t 0 p
+      by true i =
+          let n : min most 16 ≡ 16 = omega (arith, leb-true 16 most i) in
+          let all : 16 + (most - 16) ≡ most = omega (arith, leb-true 16 most i) in
+          let whole = rw n at e in
+          whole ∙ sym (rw all at (run_short t 16 (most - 16) 0 p (omega (arith, ap (λ (x : Run). x.next) whole))))
+      by false o =
+          let n : min most 16 ≡ most = omega (arith, leb-false 16 most o) in
+          rw n at e
+
+  -- where 16 were, it goes on behind them
+  pub run_rest : (most p : ℕ) {r : Run} → r ≡ run (min most 16) t 0 p → p + 16 ≤ r.next → (16 ≤ most) × (run (most - 16) t r.value r.next ≡ run most t 0 p)
+  run_rest most p {r} e h =
+      let next = ap (λ (x : Run). x.next) e in
+      let many : 16 ≤ most = omega (arith, run_within (min most 16) 0 p) in
+      let n : min most 16 ≡ 16 = omega arith in
+      let all : 16 + (most - 16) ≡ most = omega arith in
+      let whole = rw n at e in
+      let full = run_full t 16 (most - 16) 0 p (omega (arith, ap (λ (x : Run). x.next) whole)) in
+      (many, sym (rw (all, ← whole) at full))
+
+-- ---- room
+
+-- a number of so many digits is one of at most more
+pub digits_fit : (v j k : ℕ) → v < 16 ^ j → j ≤ k → v < 16 ^ k
+digits_fit v j k h l =
+    let m : 16 ^ j ≤ 16 ^ k = pow-le-pow_right {n = 16} (omega arith) {i = j} {j = k} l in
     omega arith
 
 -- a number of at most 31 digits has room for one more

@@ -2,16 +2,20 @@
 use Prim.Native.Nat.{ℕ, zero, suc, ◌+◌, ◌≤◌, ◌<◌}
 use mathlib.Core.Bool.{Bool, true, false}
 use mathlib.Core.List.{List}
-use mathlib.Core.Path.{◌≡◌, refl, sym, ◌∙◌, ap}
+use mathlib.Core.Path.{◌≡◌, refl, ◌∙◌}
 use native.Mathlib.Nat.{add-zero, zero-add}
 use native.Mathlib.Omega.{arith}
+use borrow.Author.Tests.{ltb-true, ltb-false}
+use lib.Dec.{ltb}
 use lib.ListN.{length, get_or}
+use Rattle.std.specs.Prelude.{Some, None}
+use Rattle.number.proofs.TestLaws.{clash}
 use Rattle.number.specs.Tests.{pick}
 use Rattle.form.specs.Hex.{is_digit, digit_of}
+use Rattle.form.specs.Table.{counts, entries_from, digit_table, digit_in}
 use Rattle.form.specs.Read.{char_at}
-use Rattle.form.specs.Table.{counts, entries_from, digit_table}
+use Rattle.form.proofs.StepLaws.{no_digit_past}
 use Rattle.form.proofs.HexLaws.{digit_of_lt}
-use Rattle.form.proofs.StepLaws.{char_in}
 
 -- the entries from that of c on
 entry-from : (n c k : ℕ) → k < n → get_or (entries_from n c) k 0 ≡ counts (c + k)
@@ -42,6 +46,41 @@ a_digit c h = by (is_digit c) refl h
     by true e h = (e, refl)
     by false e h = absurd (omega arith)
 
--- what a table that is the table has for the character at a place of a text
-pub found : {d : List ℕ} (t : List ℕ) (p : ℕ) → d ≡ digit_table → p < length t → get_or t p 0 < 256 → get_or d (get_or t p 0) 0 ≡ counts (char_at t p)
-found t p table here byte = rw table (entry (get_or t p 0) byte ∙ ap counts (sym (char_in t p here)))
+-- a table that is the table of digits says of each byte what it counts
+pub found : {d : List ℕ} → d ≡ digit_table → (c : ℕ) → c < 256 → get_or d c 0 ≡ counts c
+found table c h = rw table (entry c h)
+
+-- so an entry below 16 is a digit, and another is none
+pub some_digit : (c : ℕ) → counts c ≤ 15 → Some (counts c) ≡ digit_in c
+some_digit c h = rw (a_digit c h).0
+
+pub none_digit : (c : ℕ) → 15 < counts c → None ≡ digit_in c
+none_digit c h = rw (no_digit c h)
+
+-- a character that counts so much is a digit
+pub digit_some : (c : ℕ) {d : ℕ} → digit_in c ≡ Some d → (is_digit c ≡ true) × (digit_of c ≡ d) × (d < 16)
+digit_some c {d} = by (is_digit c) refl
+  where
+    by : (b : Bool) → is_digit c ≡ b → pick b (Some (digit_of c)) None ≡ Some d → (is_digit c ≡ true) × (digit_of c ≡ d) × (d < 16)
+    by true e h = let same : digit_of c ≡ d = cc in (e, same, omega (arith, digit_of_lt c e))
+    by false e h = clash cc
+
+-- and one that counts nothing is none
+pub digit_none : (c : ℕ) → digit_in c ≡ None → is_digit c ≡ false
+digit_none c = by (is_digit c) refl
+  where
+    by : (b : Bool) → is_digit c ≡ b → pick b (Some (digit_of c)) None ≡ None → is_digit c ≡ false
+    by true e h = clash cc
+    by false e h = e
+
+-- past the end of a text there is none
+pub digit_past : (t : List ℕ) (p : ℕ) → length t ≤ p → None ≡ digit_in (char_at t p)
+digit_past t p h = rw (no_digit_past t p h)
+
+-- so a digit stands inside of it
+pub digit_inside : (t : List ℕ) (p : ℕ) {d : ℕ} → digit_in (char_at t p) ≡ Some d → p < length t
+digit_inside t p {d} e = by (ltb p (length t)) refl
+  where
+    by : (b : Bool) → ltb p (length t) ≡ b → p < length t
+    by true i = ltb-true p (length t) i
+    by false o = let none = digit_past t p (ltb-false p (length t) o) ∙ e in clash cc

@@ -54,7 +54,7 @@ module _ (t : List ℕ) where
   stands_first p (c ∷ s) h st = sym st.0
 
   -- a character stands inside of the text
-  char_inside : (p c : ℕ) → char_at t p ≡ c → c < no_char → p < length t
+  pub char_inside : (p c : ℕ) → char_at t p ≡ c → c < no_char → p < length t
   char_inside p c e h = by (ltb p (length t)) refl
     where
       by : (b : Bool) → ltb p (length t) ≡ b → p < length t

@@ -1,42 +1,29 @@
--- What a name is, and what the readers' answers say.
-use Rattle.std.specs.Prelude.{ℕ, ◌^◌, ◌<◌, List, ◌≡◌}
+-- What the readers' answers say.
+use Rattle.std.specs.Prelude.{ℕ, Result, Ok, Err}
 use Rattle.long.specs.Halves.{whole}
-use Rattle.cell.specs.Low.{le}
+use Rattle.long.specs.declared.Long.{Long}
 use Rattle.form.specs.Read.{Read, got, stop, Run}
-use Rattle.form.specs.declared.Digits.{Digits}
-use Rattle.form.specs.declared.Half.{Half}
-use Rattle.form.specs.declared.Matched.{Matched}
-use Rattle.form.specs.declared.Matched.TheVariants as m
-use Rattle.form.specs.declared.Name.{Name}
-use Rattle.form.specs.declared.Number.{Number}
-use Rattle.form.specs.declared.Number.TheVariants as n
+use Rattle.form.specs.declared.Read as code
+use Rattle.form.specs.declared.Stop.{Stop}
 
 -- the most digits of a number below 2^128
 abbrev pub most_digits : ℕ
 most_digits = 32
 
--- a name has at most 7 characters, and its bound is the first number of more
-abbrev pub Bounded : Name → Type 0
-Bounded n = (n.bound ≡ 256 ^ n.len) × (n.len < 8)
-
--- the characters of a name
-abbrev pub name_text : Name → List ℕ
-name_text n = le n.len n.number
-
 -- given characters
-abbrev pub matched : Matched → Read Unit
-matched (m.To p) = got tt p
-matched (m.Stop p) = stop p
+abbrev pub matched : Result ℕ Stop → Read Unit
+matched (Ok p) = got tt p
+matched (Err s) = stop s.0
 
--- a run of at most 16 digits
-abbrev pub half_run : Half → Run
-half_run h = record { value = h.value; next = h.next }
+-- a run of digits, by the number that its value is
+abbrev pub digit_run : {N : Type 0} → (N → ℕ) → code.Read N → Run
+digit_run value r = record { value = value r.value; next = r.next }
 
--- a run of digits
-abbrev pub digit_run : Digits → Run
-digit_run d = record { value = whole d.value; next = d.next }
+-- what was read, by what its value says
+abbrev pub told : {A B : Type 0} → (A → B) → Result (code.Read A) Stop → Read B
+told says (Ok r) = got (says r.value) r.next
+told says (Err s) = stop s.0
 
 -- a number
-abbrev pub number : Number → Read ℕ
-number (n.Got x p) = got (whole x) p
-number (n.Stop p) = stop p
+abbrev pub number : Result (code.Read Long) Stop → Read ℕ
+number r = told whole r

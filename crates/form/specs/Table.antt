@@ -1,5 +1,5 @@
 -- What each byte counts as a digit, as a table.
-use Rattle.std.specs.Prelude.{ℕ, zero, suc, List, [], ◌∷◌}
+use Rattle.std.specs.Prelude.{ℕ, zero, suc, List, [], ◌∷◌, Option, Some, None}
 use Rattle.number.specs.Tests.{pick}
 use Rattle.form.specs.Hex.{is_digit, digit_of}
 
@@ -15,3 +15,7 @@ entries_from (suc n) c = counts c ∷ entries_from n (suc c)
 -- the entries of all bytes
 unfoldable pub digit_table : List ℕ
 digit_table = entries_from 256 0
+
+-- what a character counts that is a digit
+abbrev pub digit_in : ℕ → Option ℕ
+digit_in c = pick (is_digit c) (Some (digit_of c)) None

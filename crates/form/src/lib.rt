@@ -1,69 +1,78 @@
 // Texts of a given form, read from a position on: names, and numbers in lower-case hex. Every reader answers on every text and position: the value and the
-// place after it, or the place of the first character that cannot go on. Digits are told by a table that is lent (`digit_table`). Only crates of this
-// repository call these readers.
+// place after it, or the place of the first character that cannot go on. Only crates of this repository call these readers. A text and a
+// place in it are two parameters, as each reader answers the next place alone: a struct of both would be taken apart at each step. The most digits that a number
+// may have come from the list's line, and each reader that is handed them asks that they fit.
 #![tactic(auto)]
 
-ghost use Rattle.std.specs.Prelude.{◌&&◌, ◌≡◌, ◌+◌, ◌*◌, ◌%◌, ◌^◌, ◌≤◌, ◌<◌, eqb, leb, length};
-ghost use Rattle.cell.specs.Low.{le, low_num};
-ghost use Rattle.form.specs.Plain.{most_digits, Bounded, name_text, matched, half_run, digit_run, number};
+ghost use Rattle.std.specs.Prelude.{ℕ, ◌≡◌, ◌&&◌, ◌+◌, ◌*◌, ◌-◌, ◌%◌, ◌^◌, ◌≤◌, ◌<◌, eqb, leb, length};
+ghost use Rattle.cell.specs.Low.{low_num};
+ghost use Rattle.long.specs.Halves.{whole};
+ghost use Rattle.form.specs.Plain.{most_digits, matched, digit_run, number};
 ghost use Rattle.form.specs.Read.{char_at, read_text, run, last_place, read_digits, read_number};
-ghost use Rattle.form.specs.Table.{counts, digit_table};
+ghost use Rattle.form.specs.Table.{digit_in};
 
 use cell::read::low64_at;
-use long::{Long, push_digit, small};
+use long::Long;
+use name::Name;
 
-// A name: its characters as one number, the first counting least; how many they are, at most 7; and 256 to that power.
+pub mod name;
+
+// What was read, and the place after it.
 #[derive(Clone, Copy)]
-pub struct Name {
-    pub number: u64,
-    pub bound: u64,
-    pub len: usize,
+pub struct Read<T> {
+    pub value: T,
+    pub next: usize,
 }
 
-// Where given characters end, or the place of the first that differs.
+// The place of the first character that cannot go on.
 #[derive(Clone, Copy)]
-pub enum Matched {
-    To(usize),
-    Stop(usize),
-}
+pub struct Stop(pub usize);
 
-// A number and the place after it, or the place of the first character that cannot go on.
-#[derive(Clone, Copy)]
-pub enum Number {
-    Got(Long, usize),
-    Stop(usize),
-}
-
-// What each byte counts as a digit, 16 for what is none: the table that every reader of digits asks for, made once, before the loop over a text's lines.
-pub fn digit_table() -> [u8; 256]
-    ensures { result ≡ digit_table }
-{
-    let mut d: [u8; 256] = [16; 256];
+// What each byte counts as a digit, 16 for what is none: one load tells a digit, where comparisons would branch.
+static COUNTS: [u8; 256] = [
+    16, 16, 16, 16, 16, 16, 16, 16, 16, 16, 16, 16, 16, 16, 16, 16, 16, 16, 16, 16, 16, 16, 16, 16,
+    16, 16, 16, 16, 16, 16, 16, 16, 16, 16, 16, 16, 16, 16, 16, 16, 16, 16, 16, 16, 16, 16, 16, 16,
     // `0` to `9`
-    d[48] = 0;
-    d[49] = 1;
-    d[50] = 2;
-    d[51] = 3;
-    d[52] = 4;
-    d[53] = 5;
-    d[54] = 6;
-    d[55] = 7;
-    d[56] = 8;
-    d[57] = 9;
+    0, 1, 2, 3, 4, 5, 6, 7, 8, 9, 16, 16, 16, 16, 16, 16, 16, 16, 16, 16, 16, 16, 16, 16, 16, 16,
+    16, 16, 16, 16, 16, 16, 16, 16, 16, 16, 16, 16, 16, 16, 16, 16, 16, 16, 16, 16, 16, 16,
     // `a` to `f`
-    d[97] = 10;
-    d[98] = 11;
-    d[99] = 12;
-    d[100] = 13;
-    d[101] = 14;
-    d[102] = 15;
-    d
+    16, 10, 11, 12, 13, 14, 15, 16, 16, 16, 16, 16, 16, 16, 16, 16, 16, 16, 16, 16, 16, 16, 16, 16,
+    16, 16, 16, 16, 16, 16, 16, 16, 16, 16, 16, 16, 16, 16, 16, 16, 16, 16, 16, 16, 16, 16, 16, 16,
+    16, 16, 16, 16, 16, 16, 16, 16, 16, 16, 16, 16, 16, 16, 16, 16, 16, 16, 16, 16, 16, 16, 16, 16,
+    16, 16, 16, 16, 16, 16, 16, 16, 16, 16, 16, 16, 16, 16, 16, 16, 16, 16, 16, 16, 16, 16, 16, 16,
+    16, 16, 16, 16, 16, 16, 16, 16, 16, 16, 16, 16, 16, 16, 16, 16, 16, 16, 16, 16, 16, 16, 16, 16,
+    16, 16, 16, 16, 16, 16, 16, 16, 16, 16, 16, 16, 16, 16, 16, 16, 16, 16, 16, 16, 16, 16, 16, 16,
+    16, 16, 16, 16, 16, 16, 16, 16, 16, 16, 16, 16, 16, 16, 16, 16,
+];
+
+// What a character counts as a digit, if it is one.
+fn digit(c: u8) -> Option<u8>
+    ensures { result ≡ digit_in c }
+{
+    let count = COUNTS[c as usize];
+    if count < 16 { Some(count) } else { None }
+}
+
+// What the character at p counts as a digit, if there is one that is.
+fn digit_at(t: &[u8], p: usize) -> Option<u8>
+    ensures { result ≡ digit_in (char_at t.now p) }
+{
+    if p < t.len() { digit(t[p]) } else { None }
+}
+
+// Whether the character at p is there and is this one.
+pub fn has_char(t: &[u8], p: usize, c: u8) -> bool
+    ensures { result ≡ eqb (char_at t.now p) c }
+{
+    match t.get(p) {
+        Some(x) => *x == c,
+        None => false,
+    }
 }
 
 // Whether eight characters from p on are there and begin with the name's.
 fn stands(t: &[u8], p: usize, name: Name) -> bool
-    requires { Bounded name }
-    ensures { result ≡ (leb (p + 8) (length t.now) && eqb (low_num t.now p 8 % 256 ^ name.len) name.number) }
+    ensures { result ≡ (leb (p + 8) (length t.now) && eqb (low_num t.now p 8 % 256 ^ length name.text.now) name.number) }
 {
     if t.len() <= p {
         return false;
@@ -71,190 +80,149 @@ fn stands(t: &[u8], p: usize, name: Name) -> bool
     if t.len() - p < 8 {
         return false;
     }
-    low64_at(t, p) % name.bound == name.number
+    low64_at(t, p) % (1 << (8 * name.text.len())) == name.number
 }
 
-// The characters of a name from p on, one by one.
-fn walk_name(t: &[u8], p: usize, number: u64, len: usize) -> Matched
-    ensures { matched result ≡ read_text (le len number) t.now p }
+// The characters of a name from p on, one by one. The place goes along, since it is what is answered.
+fn walk_name(t: &[u8], p: usize, name: &[u8]) -> Result<usize, Stop>
+    ensures { matched result ≡ read_text name.now t.now p }
 {
-    let mut rest = number;
-    let mut i: usize = 0;
     let mut at = p;
-    while i < len {
-        if t.len() <= at {
-            return Matched::Stop(at);
+    for c in name {
+        if !has_char(t, at, *c) {
+            return Err(Stop(at));
         }
-        if t[at] as u64 != rest % 256 {
-            return Matched::Stop(at);
-        }
-        rest = rest / 256;
         at += 1;
-        i += 1;
     }
-    Matched::To(at)
+    Ok(at)
 }
 
 // The characters of a name from p on: in one comparison where they stand there, else one by one to the first that differs.
-pub fn read_name(t: &[u8], p: usize, name: Name) -> Matched
-    requires { Bounded name }
-    ensures { matched result ≡ read_text (name_text name) t.now p }
+pub fn read_name(t: &[u8], p: usize, name: Name) -> Result<usize, Stop>
+    ensures { matched result ≡ read_text name.text.now t.now p }
 {
     if stands(t, p, name) {
-        return Matched::To(p + name.len);
+        return Ok(p + name.text.len());
     }
-    walk_name(t, p, name.number, name.len)
+    walk_name(t, p, name.text)
 }
 
-// What the character at p counts as a digit, 16 where it is none.
-fn digit_at(d: &[u8; 256], t: &[u8], p: usize) -> u8
-    requires d_value { d.now ≡ digit_table }
-    requires p_in_bounds { p < length t.now }
-    ensures { result ≡ counts (char_at t.now p) }
-{
-    d[t[p] as usize]
+// A number that takes more hex digits at its end.
+trait Spelled: Copy {
+    // The number.
+    ghost value: { Self → ℕ };
+
+    // How many digits it may have before one more.
+    ghost most: { ℕ };
+
+    // With one digit more.
+    fn with_digit(self, d: u8) -> Self
+        requires has_room { value self < 16 ^ most }
+        requires is_digit { d < 16 }
+        ensures { value result ≡ value self * 16 + d };
+}
+
+// 16 hex digits fill 64 bits.
+impl Spelled for u64 {
+    ghost value = { λ n. n };
+
+    ghost most = { 15 };
+
+    fn with_digit(self, d: u8) -> u64 {
+        self * 16 + u64::from(d)
+    }
+}
+
+// And 32 fill 128.
+impl Spelled for Long {
+    ghost value = { whole };
+
+    ghost most = { 31 };
+
+    fn with_digit(self, d: u8) -> Long {
+        self.push(d)
+    }
 }
 
 // Where a run of at most so many digits from p on ends at the latest.
 fn last_place(t: &[u8], p: usize, most: usize) -> usize
     ensures { result ≡ last_place t.now p most }
 {
-    if t.len() <= p {
-        return p;
-    }
-    if t.len() - p < most {
-        t.len()
-    } else {
-        p + most
-    }
+    p.saturating_add(most).min(t.len()).max(p)
 }
 
-// A run of digits that spell one half: their number, and the place after them.
-#[derive(Clone, Copy)]
-struct Half {
-    value: u64,
-    next: usize,
-}
-
-// A run of digits: the number that they spell, and the place after them.
-#[derive(Clone, Copy)]
-struct Digits {
-    value: Long,
-    next: usize,
-}
-
-// The digits from p on, at most so many, no more than a half has.
-fn run_half(d: &[u8; 256], t: &[u8], p: usize, most: usize) -> Half
-    requires d_value { d.now ≡ digit_table }
-    requires most_bound { most ≤ 16 }
-    ensures { (half_run result ≡ run most t.now 0 p) × (p ≤ result.next) }
+// The digits from p on, at most so many, after those that spell `start`, which has room for them.
+fn run_on<N: Spelled>(t: &[u8], start: N, p: usize, most: usize) -> Read<N>
+    requires room { most ≤ N.most + 1 }
+    requires small { N.value start < 16 ^ (N.most + 1 - most) }
+    ensures run { digit_run N.value result ≡ run most t.now (N.value start) p }
+    ensures forward { p ≤ result.next }
 {
-    let mut value: u64 = 0;
-    let mut at = p;
     let end = last_place(t, p, most);
-    while at < end {
-        let c = digit_at(d, t, at);
-        if 15 < c {
-            return Half { value, next: at };
-        }
-        value = value * 16 + (c as u64);
-        at += 1;
+    let mut value = start;
+    for at in p..end {
+        let Some(d) = digit(t[at]) else {
+            return Read { value, next: at };
+        };
+        value = value.with_digit(d);
     }
-    Half { value, next: at }
+    Read { value, next: end }
 }
 
-// The digits from p on, at most so many, after digits that spell v.
-fn run_on(d: &[u8; 256], t: &[u8], v: u64, p: usize, most: usize) -> Digits
-    requires d_value { d.now ≡ digit_table }
-    requires most_bound { most ≤ 16 }
-    ensures { (digit_run result ≡ run most t.now v p) × (p ≤ result.next) }
+// The digits from p on, at most so many: 16 of them fill a number of 64 bits, and what comes behind needs a longer one.
+fn run_digits(t: &[u8], p: usize, most: usize) -> Read<Long>
+    requires { most ≤ most_digits }
+    ensures run { digit_run whole result ≡ run most t.now 0 p }
+    ensures forward { p ≤ result.next }
 {
-    let mut value = small(v);
-    let mut at = p;
-    let end = last_place(t, p, most);
-    while at < end {
-        let c = digit_at(d, t, at);
-        if 15 < c {
-            return Digits { value, next: at };
-        }
-        value = push_digit(value, c);
-        at += 1;
+    let first = run_on(t, 0u64, p, most.min(16));
+    let start = Long::from(first.value);
+    let next = first.next;
+    if next - p < 16 {
+        return Read { value: start, next };
     }
-    Digits { value, next: at }
-}
-
-// The digits from p on, at most so many.
-fn run_digits(d: &[u8; 256], t: &[u8], p: usize, most: usize) -> Digits
-    requires d_value { d.now ≡ digit_table }
-    requires most_le_most_digits { most ≤ most_digits }
-    ensures { (digit_run result ≡ run most t.now 0 p) × (p ≤ result.next) }
-{
-    if most <= 16 {
-        let h = run_half(d, t, p, most);
-        return Digits {
-            value: small(h.value),
-            next: h.next,
-        };
-    }
-    let h = run_half(d, t, p, 16);
-    if h.next - p < 16 {
-        return Digits {
-            value: small(h.value),
-            next: h.next,
-        };
-    }
-    run_on(d, t, h.value, h.next, most - 16)
+    run_on(t, start, next, most - 16)
 }
 
 // A number in at least so many digits and at most so many, from p on.
-fn read_digits(d: &[u8; 256], t: &[u8], p: usize, least: usize, most: usize) -> Number
-    requires d_value { d.now ≡ digit_table }
-    requires most_le_most_digits { most ≤ most_digits }
+fn read_digits(t: &[u8], p: usize, least: usize, most: usize) -> Result<Read<Long>, Stop>
+    requires { most ≤ most_digits }
     ensures { number result ≡ read_digits least most t.now p }
 {
-    let digits = run_digits(d, t, p, most);
+    let digits = run_digits(t, p, most);
     if digits.next - p < least {
-        Number::Stop(digits.next)
-    } else {
-        let value = digits.value;
-        Number::Got(value, digits.next)
+        return Err(Stop(digits.next));
     }
+    Ok(digits)
 }
 
 // A number in one to so many digits, without leading zero, zero as `0`, from p on: a zero in front stands alone.
-pub fn read_number(d: &[u8; 256], t: &[u8], p: usize, most: usize) -> Number
-    requires d_value { d.now ≡ digit_table }
-    requires most_le_most_digits { most ≤ most_digits }
+pub fn read_number(t: &[u8], p: usize, most: usize) -> Result<Read<Long>, Stop>
+    requires { most ≤ most_digits }
     ensures { number result ≡ read_number most t.now p }
 {
-    if t.len() <= p {
-        return Number::Stop(p);
+    if has_char(t, p, b'0') {
+        return Ok(Read {
+            value: Long::default(),
+            next: p + 1,
+        });
     }
-    if t[p] == b'0' {
-        return Number::Got(small(0), p + 1);
-    }
-    read_digits(d, t, p, 1, most)
+    read_digits(t, p, 1, most)
 }
 
 // A number in exactly two digits, from p on.
-pub fn read_pair(d: &[u8; 256], t: &[u8], p: usize) -> Number
-    requires { d.now ≡ digit_table }
+pub fn read_pair(t: &[u8], p: usize) -> Result<Read<Long>, Stop>
     ensures { number result ≡ read_digits 2 2 t.now p }
 {
-    if t.len() <= p {
-        return Number::Stop(p);
-    }
-    let a = digit_at(d, t, p);
-    if 15 < a {
-        return Number::Stop(p);
-    }
+    let Some(a) = digit_at(t, p) else {
+        return Err(Stop(p));
+    };
     let q = p + 1;
-    if t.len() <= q {
-        return Number::Stop(q);
-    }
-    let b = digit_at(d, t, q);
-    if 15 < b {
-        return Number::Stop(q);
-    }
-    Number::Got(small((a * 16 + b) as u64), q + 1)
+    let Some(b) = digit_at(t, q) else {
+        return Err(Stop(q));
+    };
+    Ok(Read {
+        value: Long::from(u64::from(a * 16 + b)),
+        next: q + 1,
+    })
 }

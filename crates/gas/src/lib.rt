@@ -14,19 +14,19 @@ pub const WORD_GAS: u64 = 3;
 pub const SQUARE_DIVISOR: u64 = 512;
 
 // A count of bytes of memory.
-#[derive(Clone, Copy)]
+#[derive(Clone, Copy, Default, PartialEq, Eq, PartialOrd, Ord)]
 pub struct Bytes(pub u32);
 
 // A count of EVM words, of 32 bytes each.
-#[derive(Clone, Copy)]
+#[derive(Clone, Copy, Default, PartialEq, Eq, PartialOrd, Ord)]
 pub struct Words(pub u32);
 
 // An amount of gas.
-#[derive(Clone, Copy)]
+#[derive(Clone, Copy, Default, PartialEq, Eq, PartialOrd, Ord)]
 pub struct Gas(pub u64);
 
 // A square in three parts: 512 times q2, 256 times the bit e, and the last byte.
-#[derive(Clone, Copy)]
+#[derive(Clone, Copy, Default, PartialEq, Eq)]
 pub struct Split {
     pub q2: u64,
     pub e: u8,
@@ -37,19 +37,14 @@ pub struct Split {
 pub fn words_of(b: Bytes) -> Words
     ensures { result.0 ≡ words b.0 }
 {
-    let whole = b.0 / WORD_BYTES;
-    if b.0 % WORD_BYTES == 0 {
-        Words(whole)
-    } else {
-        Words(whole + 1)
-    }
+    Words(b.0.div_ceil(WORD_BYTES))
 }
 
 // What a memory of so many words costs.
 pub fn cost_of(a: Words) -> Gas
     ensures { result.0 ≡ cost a.0 }
 {
-    let n = a.0 as u64;
+    let n = u64::from(a.0);
     Gas(WORD_GAS * n + square(n) / SQUARE_DIVISOR)
 }
 
@@ -57,7 +52,7 @@ pub fn cost_of(a: Words) -> Gas
 pub fn split_of(a: Words) -> Split
     ensures { parts result ≡ split a.0 }
 {
-    let s = square(a.0 as u64);
+    let s = square(u64::from(a.0));
     Split {
         q2: s / SQUARE_DIVISOR,
         e: (s % SQUARE_DIVISOR / 256) as u8,

@@ -1,2 +1,3 @@
 -- The laws and theorems of `ground` that belong to no one function.
 pub mod AgreeLaws
+pub mod VectorLaws

@@ -1,5 +1,7 @@
 -- What a vector of each kind says, in the first of its bytes, by the definitions of `number` and `gas`, and how many of a file's vectors are wrong.
 use Rattle.std.specs.Prelude.{ℕ, zero, suc, ◌+◌, ◌*◌, ◌-◌, ◌/◌, ◌%◌, ◌^◌, Bool, not, ◌&&◌, List, [], ◌∷◌, ◌≡◌, eqb, ltb, length}
+use Rattle.std.specs.List.{count_by}
+use Rattle.std.specs.Simd.{first_chunks}
 use Rattle.gas.specs.Gas.{words, cost, split}
 use Rattle.ground.specs.declared.Kind.TheVariants.{Costs, Splits, Orders, Steps, Differences, Cells}
 use Rattle.ground.specs.declared.Kind.{Kind}
@@ -55,6 +57,14 @@ agrees Cells t p = cells_agree t p
 -- the bytes that a vector stands in
 abbrev pub vector_bytes : ℕ
 vector_bytes = 64
+
+-- the bytes of each of a file's whole vectors
+abbrev pub vectors_in : List ℕ → List (List ℕ)
+vectors_in t = first_chunks vector_bytes (length t / vector_bytes) t
+
+-- how many of these vectors are wrong, each by its own bytes
+abbrev pub wrong_among : Kind → List (List ℕ) → ℕ
+wrong_among k vs = count_by (λ v. not (agrees k v 0)) vs
 
 -- how many of the first n vectors are wrong
 unfoldable pub wrongs : Kind → List ℕ → ℕ → ℕ

@@ -2,26 +2,30 @@
 // each file how many vectors it has and how many of them are wrong: none, or in a file of wrong answers all.
 #![tactic(auto)]
 
-ghost use Rattle.std.specs.Prelude.{◌≡◌, true, ◌+◌, ◌*◌, ◌≤◌, ◌<◌, length, IfOk};
+ghost use Rattle.std.specs.Prelude.{◌≡◌, true, ◌/◌, length};
 ghost use Rattle.std.proofs.lemmas.List.Edits.{sets};
 ghost use Rattle.number.specs.Cells.{encode, decode};
-ghost use Rattle.number.specs.Tests.{bit};
-ghost use Rattle.ground.specs.Agree.{agrees, costs_agree, splits_agree, orders_agree, steps_agree, differences_agree, cells_agree, widths, vector_bytes, Tallied};
+ghost use Rattle.ground.specs.Agree.{agrees, costs_agree, splits_agree, orders_agree, steps_agree, differences_agree, cells_agree, widths, vector_bytes, vectors_in, wrong_among, Tallied};
 
 use cell::read::{u8_at, u24_at, u32_at, wide_at};
+use console::read_full;
 use gas::{Bytes, Words};
-use number::wide::{in_bounds, is_next, less, minus, minus_bound, push, same, small};
-use std::fs::File;
-use std::io::Read;
-use std::{fs, io};
+use number::wide::{Wide, in_bounds, is_next, minus, minus_bound, push};
+use std::{fmt, fs, io};
 
 // The bytes that a vector stands in.
 const VECTOR_BYTES: usize = 64;
 
+// The bytes of one vector: what it says stands in the first of them.
+type Vector = [u8; VECTOR_BYTES];
+
+// The bytes that the four cells of a vector of cells stand in.
+const CELL_BYTES: usize = 25;
+
 // The most bytes of a file that are read.
 const FILE_BYTES: usize = 65536;
 
-// What the vectors of a file are about.
+// What the vectors of a file are about: a value, since the definitions say by it what each vector claims.
 #[derive(Clone, Copy)]
 pub enum Kind {
     Costs,
@@ -39,165 +43,135 @@ pub struct Tally {
     pub wrong: usize,
 }
 
-// 1 for true.
-fn as_bit(x: bool) -> u8
-    ensures { (result ≡ bit x) × (result ≤ 1) }
-{
-    if x { 1 } else { 0 }
+impl fmt::Display for Tally {
+    fn fmt<W: fmt::Write>(&self, f: &mut fmt::Formatter<W>) -> fmt::Result {
+        write!(f, "vectors={} wrong={}", self.vectors, self.wrong)
+    }
 }
 
-// Whether the vector at p says what is so: a function for each kind, whose definition says where its numbers stand.
+// Whether the vector says what is so: a function for each kind, whose definition says where its numbers stand.
 
-fn costs_agree(t: &[u8], p: usize) -> bool
-    requires { p + 25 ≤ length t.now }
-    ensures { result ≡ costs_agree t.now p }
+fn costs_agree(v: &Vector) -> bool
+    ensures { result ≡ costs_agree v.now 0 }
 {
-    let a = gas::words_of(Bytes(u32_at(t, p)));
+    let a = gas::words_of(Bytes(u32_at(v, 0)));
     let c = gas::cost_of(a);
-    (a.0 == u32_at(t, p + 4)) & same(small(c.0), wide_at(t, p + 8))
+    (a.0 == u32_at(v, 4)) & (Wide::from(c.0) == wide_at(v, 8))
 }
 
-fn splits_agree(t: &[u8], p: usize) -> bool
-    requires { p + 23 ≤ length t.now }
-    ensures { result ≡ splits_agree t.now p }
+fn splits_agree(v: &Vector) -> bool
+    ensures { result ≡ splits_agree v.now 0 }
 {
-    let s = gas::split_of(Words(u32_at(t, p)));
-    same(small(s.q2), wide_at(t, p + 4)) & (s.e == u8_at(t, p + 21)) & (s.low == u8_at(t, p + 22))
+    let s = gas::split_of(Words(u32_at(v, 0)));
+    (Wide::from(s.q2) == wide_at(v, 4)) & (s.e == u8_at(v, 21)) & (s.low == u8_at(v, 22))
 }
 
-fn orders_agree(t: &[u8], p: usize) -> bool
-    requires { p + 37 ≤ length t.now }
-    ensures { result ≡ orders_agree t.now p }
+fn orders_agree(v: &Vector) -> bool
+    ensures { result ≡ orders_agree v.now 0 }
 {
-    let a = wide_at(t, p);
-    let b = wide_at(t, p + 17);
-    (as_bit(same(a, b)) == u8_at(t, p + 34))
-        & (as_bit(less(a, b)) == u8_at(t, p + 35))
-        & (as_bit(in_bounds(a)) == u8_at(t, p + 36))
+    let a = wide_at(v, 0);
+    let b = wide_at(v, 17);
+    (u8::from(a == b) == u8_at(v, 34))
+        & (u8::from(a < b) == u8_at(v, 35))
+        & (u8::from(in_bounds(a)) == u8_at(v, 36))
 }
 
-fn steps_agree(t: &[u8], p: usize) -> bool
-    requires { p + 53 ≤ length t.now }
-    ensures { result ≡ steps_agree t.now p }
+fn steps_agree(v: &Vector) -> bool
+    ensures { result ≡ steps_agree v.now 0 }
 {
-    let a = wide_at(t, p);
-    let b = wide_at(t, p + 17);
-    let next = u8_at(t, p + 34);
-    same(push(b, next), wide_at(t, p + 35)) & (as_bit(is_next(a, b, next)) == u8_at(t, p + 52))
+    let a = wide_at(v, 0);
+    let b = wide_at(v, 17);
+    let next = u8_at(v, 34);
+    (push(b, next) == wide_at(v, 35)) & (u8::from(is_next(a, b, next)) == u8_at(v, 52))
 }
 
-fn differences_agree(t: &[u8], p: usize) -> bool
-    requires { p + 55 ≤ length t.now }
-    ensures { result ≡ differences_agree t.now p }
+fn differences_agree(v: &Vector) -> bool
+    ensures { result ≡ differences_agree v.now 0 }
 {
-    let a = wide_at(t, p);
-    let n = u32_at(t, p + 17) as u64;
-    same(minus(a, n), wide_at(t, p + 21)) & same(minus_bound(a), wide_at(t, p + 38))
+    let a = wide_at(v, 0);
+    let n = u64::from(u32_at(v, 17));
+    (minus(a, n) == wide_at(v, 21)) & (minus_bound(a) == wide_at(v, 38))
 }
 
-// Reads four cells at p and writes them to the start of out.
-fn copy_cells(t: &[u8], p: usize, out: &mut [u8])
-    requires p_in_bounds { p + 25 ≤ length t.now }
-    requires in_bounds { 25 ≤ length out.old }
-    ensures { out.new ≡ sets out.old 0 (encode widths (decode widths t.now p)) }
+// Reads the four cells and writes them to out, which they fill.
+fn copy_cells(v: &Vector, out: &mut [u8; CELL_BYTES])
+    ensures { out.new ≡ sets out.old 0 (encode widths (decode widths v.now 0)) }
 {
-    cell::write::put_u8(out, 0, u8_at(t, p));
-    cell::write::put_u24(out, 1, u24_at(t, p + 1));
-    cell::write::put_u32(out, 4, u32_at(t, p + 4));
-    cell::write::put_wide(out, 8, wide_at(t, p + 8));
+    cell::write::put_u8(out, 0, u8_at(v, 0));
+    cell::write::put_u24(out, 1, u24_at(v, 1));
+    cell::write::put_u32(out, 4, u32_at(v, 4));
+    cell::write::put_wide(out, 8, wide_at(v, 8));
 }
 
-// Whether the four cells at p, read and written, are the bytes that stand there. By the contracts they are; a run sees
-// whether the compiled code keeps to that.
-fn copies_back(t: &[u8], p: usize) -> bool
-    requires { p + 25 ≤ length t.now }
+// Whether the four cells, read and written, are the bytes that stand there. By the contracts they are; a run sees whether the
+// compiled code keeps to that.
+fn copies_back(v: &Vector) -> bool
     ensures { result ≡ true }
 {
-    let mut out = [0u8; 25];
-    copy_cells(t, p, &mut out);
-    check::same(&out, &t[p..p + 25])
+    let mut out = [0u8; CELL_BYTES];
+    copy_cells(v, &mut out);
+    check::same(&out, &v[..CELL_BYTES])
 }
 
-fn cells_agree(t: &[u8], p: usize) -> bool
-    requires { p + 29 ≤ length t.now }
-    ensures { result ≡ cells_agree t.now p }
+fn cells_agree(v: &Vector) -> bool
+    ensures { result ≡ cells_agree v.now 0 }
 {
-    copies_back(t, p) & (u24_at(t, p + 1) == u32_at(t, p + 25))
+    copies_back(v) & (u24_at(v, 1) == u32_at(v, 25))
 }
 
 // The same for a vector of any kind.
-fn agree(kind: Kind, t: &[u8], p: usize) -> bool
-    requires { p + vector_bytes ≤ length t.now }
-    ensures { result ≡ agrees kind t.now p }
+fn agree(kind: Kind, v: &Vector) -> bool
+    ensures { result ≡ agrees kind v.now 0 }
 {
     match kind {
-        Kind::Costs => costs_agree(t, p),
-        Kind::Splits => splits_agree(t, p),
-        Kind::Orders => orders_agree(t, p),
-        Kind::Steps => steps_agree(t, p),
-        Kind::Differences => differences_agree(t, p),
-        Kind::Cells => cells_agree(t, p),
+        Kind::Costs => costs_agree(v),
+        Kind::Splits => splits_agree(v),
+        Kind::Orders => orders_agree(v),
+        Kind::Steps => steps_agree(v),
+        Kind::Differences => differences_agree(v),
+        Kind::Cells => cells_agree(v),
     }
+}
+
+// The whole vectors of a file's bytes.
+fn vectors_in(t: &[u8]) -> &[Vector]
+    ensures value { result.now ≡ vectors_in t.now }
+    ensures count { length result.now ≡ length t.now / vector_bytes }
+{
+    t.as_chunks().0
+}
+
+// How many of the vectors are wrong.
+fn wrong_of(kind: Kind, vectors: &[Vector]) -> usize
+    ensures { result ≡ wrong_among kind vectors.now }
+{
+    vectors.iter().filter(|v| !agree(kind, v)).count()
 }
 
 // How many vectors t has, and how many of them are wrong.
 fn tallied(kind: Kind, t: &[u8]) -> Tally
     ensures { Tallied kind t.now result.vectors result.wrong }
 {
-    let n = t.len() / VECTOR_BYTES;
-    let mut wrong: usize = 0;
-    let mut k: usize = 0;
-    while k < n {
-        let ok = agree(kind, t, k * VECTOR_BYTES);
-        wrong += as_bit(!ok) as usize;
-        k += 1;
+    let vectors = vectors_in(t);
+    Tally {
+        vectors: vectors.len(),
+        wrong: wrong_of(kind, vectors),
     }
-    Tally { vectors: n, wrong }
-}
-
-// Prints a number behind its key.
-fn put(rt: &HostRuntime, key: &str, n: u64) -> io::Result<()> {
-    print!(rt; "{key}{n}")
-}
-
-fn end_line(rt: &HostRuntime) -> io::Result<()> {
-    println!(rt; "")
 }
 
 // Prints the words and the cost of an end.
 fn show_cost(rt: &HostRuntime, end: Bytes) -> io::Result<()> {
     let a = gas::words_of(end);
     let c = gas::cost_of(a);
-    put(rt, "end=", end.0 as u64)?;
-    put(rt, " words=", a.0 as u64)?;
-    put(rt, " cost=", c.0)?;
-    end_line(rt)
+    println!(rt; "end={} words={} cost={}", end.0, a.0, c.0)
 }
 
 // Prints a line for each vector of a file of costs.
 fn show_costs(rt: &HostRuntime, t: &[u8]) -> io::Result<()> {
-    let n = t.len() / VECTOR_BYTES;
-    let mut k: usize = 0;
-    while k < n {
-        show_cost(rt, Bytes(u32_at(t, k * VECTOR_BYTES)))?;
-        k += 1;
+    for v in vectors_in(t) {
+        show_cost(rt, Bytes(u32_at(v, 0)))?;
     }
     Ok(())
-}
-
-// Reads the file until buf is full or the file ends, and answers how many bytes stand at the start of buf.
-fn read_full(file: &mut File, buf: &mut [u8]) -> io::Result<usize>
-    ensures { IfOk result (λ n. n ≤ length buf.new) }
-{
-    let mut done: usize = 0;
-    while done < buf.len() {
-        let n = file.read(&mut buf[done..])?;
-        if n == 0 {
-            return Ok(done);
-        }
-        done += n;
-    }
-    Ok(done)
 }
 
 // Prints the tally of a file, and says so if it cannot be opened.
@@ -212,11 +186,7 @@ fn run(rt: &HostRuntime, path: &str, kind: Kind, show: bool) -> io::Result<()> {
     if show {
         show_costs(rt, t)?;
     }
-    let r = tallied(kind, t);
-    print!(rt; "{path}")?;
-    put(rt, " vectors=", r.vectors as u64)?;
-    put(rt, " wrong=", r.wrong as u64)?;
-    end_line(rt)
+    println!(rt; "{path} {}", tallied(kind, t))
 }
 
 fn main(rt: HostRuntime) -> io::Result<()> {

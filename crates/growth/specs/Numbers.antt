@@ -4,7 +4,7 @@ use Rattle.gas.specs.Plain.{parts}
 use Rattle.model.specs.Constraints.{aux_lift}
 use Rattle.model.specs.Cycles.{Claim}
 use Rattle.model.specs.State.{State}
-use Rattle.model.specs.Tests.{pick, bit}
+use Rattle.model.specs.Tests.{pick}
 use Rattle.model.specs.Trace.{top, apart, above, last_word, last_byte, square, reach, is_at_least, is_grown}
 use Rattle.state.specs.Plain.{state}
 use Rattle.growth.specs.declared.Ends.{Ends}
@@ -14,13 +14,13 @@ use Rattle.growth.specs.declared.Growth.{Growth}
 pub record EndsOf (c : Claim) (e : Ends) : Type 0 where
   pub end1 : e.end1.0 ≡ c.end1
   pub end2 : e.end2.0 ≡ c.end2
-  pub comp : e.comp ≡ bit (is_at_least c)
+  pub comp : e.comp ≡ is_at_least c
   pub top : e.top.0 ≡ top c
   pub apart : e.apart.0 ≡ apart (is_at_least c) c.end1 c.end2
 
 -- what the end t makes of the state s
 pub record GrowthOf (s : State) (t : ℕ) (g : Growth) : Type 0 where
-  pub flag : g.flag ≡ bit (is_grown s t)
+  pub flag : g.flag ≡ is_grown s t
   pub above : g.above.0 ≡ above (is_grown s t) t s.mem
   pub after : state g.after ≡ reach (is_grown s t) t s
   pub gas : g.gas.0 ≡ (reach (is_grown s t) t s).cost - s.cost

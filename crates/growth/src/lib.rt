@@ -15,21 +15,22 @@ use gas::{Bytes, Gas, Split, WORD_BYTES, Words, cost_of, split_of, words_of};
 use model::AUX_LIFT;
 use state::State;
 
-// The ends, whether the first is at least the second (1, else 0), the greater one, and how far they are apart.
+// The ends, whether the first is at least the second, the greater one, and how far they are apart.
 #[derive(Clone, Copy)]
 pub struct Ends {
     pub end1: Bytes,
     pub end2: Bytes,
-    pub comp: u8,
+    pub comp: bool,
     pub top: Bytes,
     pub apart: Bytes,
 }
 
-// What the greater end makes of the state. From `gas` on all is 0 where that end is not above the bytes reached before.
-#[derive(Clone, Copy)]
+// What the greater end makes of the state. From `gas` on all is 0 where that end is not above the bytes reached before: no Option, since a row has these cells then
+// too, FLAG among them.
+#[derive(Clone, Copy, Default)]
 pub struct Growth {
-    // Whether it is above them (1, else 0), and how far the two are apart.
-    pub flag: u8,
+    // Whether it is above them, and how far the two are apart.
+    pub flag: bool,
     pub above: Bytes,
     // The state that it leaves, and what that costs.
     pub after: State,
@@ -44,17 +45,18 @@ pub struct Growth {
 }
 
 // How the ends of an in-bounds claim compare.
+#[tactic(auto, using(crate::proofs::EndLaws::ends_low), unfolding(model::specs::Trace::apart))]
 pub fn ends_of(c: Claim) -> Ends
     requires { in_bounds (plain_claim c) ≡ true }
     ensures { EndsOf (plain_claim c) result }
 {
     let end1 = Bytes(c.end1.lo as u32);
     let end2 = Bytes(c.end2.lo as u32);
-    if end2.0 <= end1.0 {
+    if end2 <= end1 {
         Ends {
             end1,
             end2,
-            comp: 1,
+            comp: true,
             top: end1,
             apart: Bytes(end1.0 - end2.0),
         }
@@ -63,7 +65,7 @@ pub fn ends_of(c: Claim) -> Ends
         Ends {
             end1,
             end2,
-            comp: 0,
+            comp: false,
             top: end2,
             apart,
         }
@@ -71,6 +73,7 @@ pub fn ends_of(c: Claim) -> Ends
 }
 
 // What an end above the bytes reached makes of the state s.
+#[tactic(auto, using(model::proofs::StateLaws::paid_more), unfolding(gas::specs::Gas::words, model::specs::Trace::above, model::specs::Trace::reach, model::specs::Trace::last_word, model::specs::Trace::last_byte, model::specs::Trace::square))]
 fn grow(s: State, top: Bytes) -> Growth
     requires sound { Sound (state s) }
     requires mem_lt_top { s.mem.0 < top.0 }
@@ -82,7 +85,7 @@ fn grow(s: State, top: Bytes) -> Growth
     let cost = cost_of(words);
     let byte = ((top.0 - 1) % WORD_BYTES) as u8;
     Growth {
-        flag: 1,
+        flag: true,
         above: Bytes(top.0 - s.mem.0 - 1),
         after: State { mem: top, cost },
         gas: Gas(cost.0 - s.cost.0),
@@ -94,27 +97,19 @@ fn grow(s: State, top: Bytes) -> Growth
 }
 
 // What the end `top` makes of the state s.
+#[tactic(auto, unfolding(model::specs::Trace::above, model::specs::Trace::reach, model::specs::Trace::last_word, model::specs::Trace::last_byte, model::specs::Trace::square))]
 pub fn growth_of(s: State, top: Bytes) -> Growth
     requires sound { Sound (state s) }
     requires top_lt_bound { top.0 < bound }
     ensures { GrowthOf (state s) top.0 result }
 {
-    if s.mem.0 < top.0 {
+    if s.mem < top {
         grow(s, top)
     } else {
         Growth {
-            flag: 0,
             above: Bytes(s.mem.0 - top.0),
             after: s,
-            gas: Gas(0),
-            word: Words(0),
-            byte: 0,
-            lifted: 0,
-            square: Split {
-                q2: 0,
-                e: 0,
-                low: 0,
-            },
+            ..Growth::default()
         }
     }
 }

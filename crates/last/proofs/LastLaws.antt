@@ -9,6 +9,7 @@ use native.Mathlib.Omega.{arith}
 use borrow.Author.Tests.{ltb-true, ltb-false, lt-ltb, le-ltb, le-leb, lt-leb, eq-eqb, ne_eqb}
 use lib.Dec.{ltb}
 use lib.ListN.{length}
+use Rattle.std.specs.Prelude.{Option, None, Some}
 use Rattle.model.specs.Columns.{row_bytes, row_at, rows_of}
 use Rattle.model.specs.Cycles.{counts, Looked, last_state}
 use Rattle.model.specs.Promises.{Accepted, claims_in}
@@ -18,8 +19,6 @@ use Rattle.model.specs.Verdict.{row_before}
 use Rattle.model.proofs.VerdictLaws.{verdict_accepted}
 use Rattle.refusal.specs.Refusals.{context_zero, limit_too_low}
 use Rattle.state.specs.Look.{none_in, search_back, answered, look_back}
-use Rattle.state.specs.declared.look.Found.{Found}
-use Rattle.state.specs.declared.look.Found.TheVariants.{At, Nothing}
 use Rattle.state.specs.declared.look.Search.{Search}
 use Rattle.state.proofs.LookLaws.{HoldBefore, Between, look_is_last, none_in_all}
 use Rattle.state.proofs.SearchLaws.{limited_to, lower_limit, count-within}
@@ -43,10 +42,10 @@ module _ (limit : ℕ) (a : Looked) where
 
 -- ---- a search of all cycles, and the same under a limit
 
-module _ (cycles : ℕ) (all : Search) (within : all.count ≤ cycles) (none : all.found ≡ Nothing → all.count ≡ cycles) where
-  all_whole : (f : Found) → all.found ≡ f → stopped_short f all.count cycles ≡ false
-  all_whole (At i) e = refl
-  all_whole Nothing e = le-ltb all.count cycles (omega (arith, none e))
+module _ (cycles : ℕ) (all : Search) (within : all.count ≤ cycles) (none : all.found ≡ None → all.count ≡ cycles) where
+  all_whole : (f : Option ℕ) → all.found ≡ f → stopped_short f all.count cycles ≡ false
+  all_whole (Some i) e = refl
+  all_whole None e = le-ltb all.count cycles (omega (arith, none e))
 
   module _ (limit : ℕ) where
     enough : all.count ≤ limit → limited_to (min limit cycles) all ≡ all
@@ -93,7 +92,7 @@ module _ (l : List ℕ) (a : Accepted l) (x : Context) (cycles : ℕ) (told : cy
   all_within : all.count ≤ cycles
   all_within = count-within (row_at l) x cycles rows
 
-  all_none : all.found ≡ Nothing → all.count ≡ cycles
+  all_none : all.found ≡ None → all.count ≡ cycles
   all_none = rw stamp at (none_in_all (row_at l) rows x rows holds between)
 
   -- a search over the lower of a limit and all cycles

@@ -1,15 +1,15 @@
 -- The last-state question, what is answered on any bytes, and document 01's numbers for each case.
-use Rattle.std.specs.Prelude.{ℕ, List, eqb, ltb}
+use Rattle.std.specs.Prelude.{ℕ, List, Result, Ok, Err, eqb, ltb}
 use Rattle.model.specs.Columns.{rows_of}
 use Rattle.model.specs.Cycles.{Looked, last_state}
 use Rattle.model.specs.State.{Context}
 use Rattle.model.specs.Tests.{pick}
 use Rattle.model.specs.Verdict.{verdict}
-use Rattle.refusal.specs.Refusals.{lineless, context_zero, limit_too_low}
+use Rattle.refusal.specs.Refusals.{number, line, lineless, context_zero, limit_too_low}
+use Rattle.refusal.specs.declared.Refusal.{Refusal}
+use Rattle.state.specs.declared.look.Looked as code
 use Rattle.state.specs.Plain.{told_looked}
 use Rattle.trace.specs.Asked.{Answer, given, refused, of_accepted}
-use Rattle.last.specs.declared.Last.{Last}
-use Rattle.last.specs.declared.Last.TheVariants as last
 
 -- an answer within a limit on cycles. 14: more cycles needed than the limit.
 unfoldable pub within_limit : (limit : ℕ) → Looked → Answer Looked
@@ -23,9 +23,9 @@ last_of l x limit =
 -- ---- what is told
 
 -- the state, and how many cycles were looked at for it
-abbrev pub told_last : Answer Looked → Last
-told_last (given a) = last.Is (told_looked a)
-told_last (refused n) = last.Refused (lineless n)
+abbrev pub told_last : Answer Looked → Result code.Looked Refusal
+told_last (given a) = Ok (told_looked a)
+told_last (refused n) = Err (lineless n)
 
 -- the numbers of a refusal, MEMN, COSTN and how many cycles it looked at
 pub record LastNumbers : Type 0 where
@@ -36,6 +36,6 @@ pub record LastNumbers : Type 0 where
   pub looked : ℕ
 
 -- on a refusal all other result fields are 0
-abbrev pub last_numbers : Last → LastNumbers
-last_numbers (last.Is a) = record { refused = 0; line = 0; mem = a.state.mem.0; cost = a.state.cost.0; looked = a.cycles }
-last_numbers (last.Refused r) = record { refused = r.number; line = r.line; mem = 0; cost = 0; looked = 0 }
+abbrev pub last_numbers : Result code.Looked Refusal → LastNumbers
+last_numbers (Ok a) = record { refused = 0; line = 0; mem = a.state.mem.0; cost = a.state.cost.0; looked = a.cycles }
+last_numbers (Err r) = record { refused = number r; line = line r; mem = 0; cost = 0; looked = 0 }

@@ -3,3 +3,4 @@ pub mod ReadLaws
 pub mod CountLaws
 pub mod RecallLaws
 pub mod WriteLaws
+pub mod PassLaws

@@ -1,14 +1,12 @@
 -- What is written turn by turn: zeros, and the cycles of a list.
-use Prim.Native.Nat.{ℕ, suc, ◌+◌, ◌-◌, ◌*◌, ◌<◌, ◌≤◌}
-use mathlib.Core.Bool.{Bool, true, false}
+use Prim.Native.Nat.{ℕ, suc, ◌+◌, ◌*◌, ◌<◌, ◌≤◌}
 use mathlib.Core.List.{List, [], ◌∷◌, ◌++◌, map, map-append}
 use mathlib.Core.Path.{◌≡◌, refl, sym, ◌∙◌, ap, ap₂, subst}
 use native.Mathlib.Nat.{zero-add, add-zero}
-use native.Mathlib.Numerals.{add-one}
 use native.Mathlib.Omega.{arith}
-use lib.ListN.{length, set, replicate, take, drop, length-append, length-map, length-replicate, replicate-append-replicate}
-use lib.Seq.{sets, sets-eq, length-sets, take-append_seam}
-use Rattle.number.proofs.StoreLaws.{sets-append}
+use lib.ListN.{length, replicate, take, drop, length-append, length-map, length-replicate}
+use lib.Seq.{sets, sets-eq, length-sets, length-take-le, take-append_seam}
+use Rattle.std.specs.Prelude.{None, Some, Ok, Err}
 use Rattle.model.specs.Columns.{Cells, empty_row, row_bytes, row_at, bytes_of}
 use Rattle.model.specs.Cycles.{Claim}
 use Rattle.model.specs.Promises.{Valid}
@@ -24,28 +22,28 @@ use Rattle.model.proofs.RowBytes.{AllFit, length_bytes, bytes_append, row_betwee
 use Rattle.model.proofs.StateLaws.{all_sound_fresh}
 use Rattle.row.proofs.RowLaws.{write_more}
 use Rattle.state.specs.Plain.{context}
-use Rattle.recent.specs.Notes.{slots, slot_of, Span, no_span, wider, Known, recalled}
+use Rattle.recent.specs.Notes.{Recent, nothing_noted, noted, Known, recalled}
 use Rattle.recent.proofs.NoteLaws.{noted_in_lem}
-use Rattle.refusal.specs.declared.Refusal.{Refusal}
 use Rattle.claim.specs.Claims.{claim_of}
 use Rattle.claim.specs.Instruction.{Instruction}
-use Rattle.claim.specs.Told.{told_instruction, plain_instruction, told_claim, plain_claim}
+use Rattle.claim.specs.Told.{told_claim, plain_claim}
 use Rattle.claim.specs.declared.claim.Claim as held
-use Rattle.claim.specs.declared.instruction.Instruction as code
-use Rattle.list.specs.List.{one, next_line}
-use Rattle.list.specs.Told.{told_next}
-use Rattle.list.specs.declared.Next.TheVariants as next
+use Rattle.list.specs.List.{Next, one, next_line}
+use Rattle.refusal.specs.declared.Refusal.{Refusal}
 use Rattle.list.proofs.ListLaws.{list_valid}
 use Rattle.lines.specs.Lines.{rows_of_claims, Lists, claims_listed, list_claims, Writable, NextWritable, cycles_written}
-use Rattle.lines.proofs.CountLaws.{told_end, told-one, told_refused, Counted, More, counted_start}
-use Rattle.lines.proofs.ReadLaws.{claim-told, rows_snoc, Reached, reached-start, reached_next, reached-one, reached_all, reached_right}
+use Rattle.lines.specs.Reading.{told_claimed, place_after, lines_after}
+use Rattle.lines.proofs.ReadLaws.{claim_held, claimed_end, claimed_one, claimed_refused, one_inside, rows_snoc}
+use Rattle.lines.proofs.ReadLaws.{Reached, reached-start, reached_next, reached-one, reached_all, reached_right}
 use Rattle.lines.proofs.RecallLaws.{trace_row, known_empty, known_claim, recalled-after}
 
 -- ---- zeros
 
--- one zero more behind i of them
-pub zero_more : (l : List ℕ) (i : ℕ) → set (sets l 0 (replicate i 0)) i 0 ≡ sets l 0 (replicate (i + 1) 0)
-zero_more l i = rw (zero-add, length-replicate, replicate-append-replicate {A = ℕ} i 1 0) at (sets-append l 0 (replicate i 0) (0 ∷ []))
+-- zeros in place of the first n bytes
+pub zeros_put : (l : List ℕ) (n : ℕ) → n ≤ length l → replicate (length (take n l)) 0 ++ drop n l ≡ sets l 0 (replicate n 0)
+zeros_put l n h =
+    let count : length (take n l) ≡ n = length-take-le n l h in
+    rw (count, sets-eq (replicate n 0) l 0 (omega (arith, length-replicate {A = ℕ})), zero-add, length-replicate)
 
 -- ---- the rows of claims
 
@@ -74,42 +72,45 @@ read_trace {buf} l n cs empty bytes fit room j h =
 
 -- k lines of the text t were read, up to the place `at`, and the cycles of their instructions are written from row `first` up to row `row`, behind empty rows;
 -- what is known of all of them is known; the other bytes are those of l
-pub record Filling (t l buf notes : List ℕ) (s : Span) (first at row k : ℕ) : Type 0 where
+pub record Filling (t l buf : List ℕ) (p : Recent) (first at row k : ℕ) : Type 0 where
   pub done : List Instruction
   pub reached : Reached t done k at
   pub rows : row ≡ first + rows_of_claims (map claim_of done)
   pub bytes : buf ≡ sets l (first * row_bytes) (bytes_of (cycles_of 1 fresh (map claim_of done)))
-  pub known : Known notes s (trace_row first (map claim_of done)) row
+  pub known : Known p.notes p.span (trace_row first (map claim_of done)) row
 
 -- before the first line nothing is written and nothing noted
-pub filling_first : (t l : List ℕ) (first : ℕ) → Filling t l l (replicate slots 0) no_span first 0 first 0
+pub filling_first : (t l : List ℕ) (first : ℕ) → Filling t l l nothing_noted first 0 first 0
 unfolding cycles_of bytes_of
 filling_first t l first = record { done = []; reached = reached-start t; rows = sym (add-zero first); bytes = refl; known = known_empty first }
 
 claims_each : {t : List ℕ} (lists : Lists t) → list_claims t ≡ map claim_of lists.each
 claims_each lists = ap claims_listed lists.read
 
-module _ {t l buf notes : List ℕ} {s : Span} {first at row k : ℕ} (lists : Lists t) (f : Filling t l buf notes s first at row k) where
+module _ {t l buf : List ℕ} {p : Recent} {first at row k : ℕ} (f : Filling t l buf p first at row k) where
+  -- there are as many bytes as before
+  pub length-kept : length buf ≡ length l
+  length-kept = ap length f.bytes ∙ length-sets l (first * row_bytes) (bytes_of (cycles_of 1 fresh (map claim_of f.done)))
+
+module _ {t l buf : List ℕ} {p : Recent} {first at row k : ℕ} (lists : Lists t) (f : Filling t l buf p first at row k) where
   -- behind the last line the cycles of all of them are written
-  pub filling_end : (n : ℕ) → told_next n (next_line t at) ≡ next.End → buf ≡ sets l (first * row_bytes) (bytes_of (cycles_of 1 fresh (list_claims t)))
+  pub filling_end : (n : ℕ) → told_claimed n (next_line t at) ≡ Ok None → buf ≡ cycles_written first (list_claims t) l
   filling_end n e =
-      let same : f.done ≡ lists.each = reached_all f.reached lists.read (told_end n _ e) in
+      let same : f.done ≡ lists.each = reached_all f.reached lists.read (claimed_end n _ e) in
       rw (claims_each lists, ← same) f.bytes
 
   -- and no line is refused
-  pub filling_right : (n : ℕ) {w : Refusal} {q : ℕ} → told_next n (next_line t at) ≡ next.Refused w q → ⊥
-  filling_right n e = reached_right f.reached lists.read (told_refused n _ e).1
+  pub filling_right : (n : ℕ) {w : Refusal} → told_claimed n (next_line t at) ≡ Err w → ⊥
+  filling_right n e = reached_right f.reached lists.read (claimed_refused n _ e).2
 
--- one turn: the cycles of the list may be written, and the code holds the next line as the instruction i and the place q after it, and its claim as c
-pub record Turn (t l buf notes : List ℕ) (s : Span) (first at row k q : ℕ) (i : code.Instruction) (c : held.Claim) : Type 0 where
+-- one turn: the cycles of the list may be written, and the code holds the claim of the next line as c
+pub record Turn (t l buf : List ℕ) (p : Recent) (first at row k : ℕ) (c : held.Claim) : Type 0 where
   pub writable : Writable t l first
-  pub filling : Filling t l buf notes s first at row k
-  pub told : told_next (k + 1) (next_line t at) ≡ next.One i q
-  pub made : c ≡ told_claim (claim_of (plain_instruction i))
+  pub filling : Filling t l buf p first at row k
+  pub told : told_claimed (k + 1) (next_line t at) ≡ Ok (Some c)
 
-module _ {t l buf notes : List ℕ} {s : Span} {first at row k q : ℕ} {i : code.Instruction} {c : held.Claim}
-    (turn : Turn t l buf notes s first at row k q i c) where
-  abbrev f : Filling t l buf notes s first at row k
+module _ {t l buf : List ℕ} {p : Recent} {first at row k : ℕ} {c : held.Claim} (turn : Turn t l buf p first at row k c) where
+  abbrev f : Filling t l buf p first at row k
   f = turn.filling
 
   abbrev w : Writable t l first
@@ -118,11 +119,11 @@ module _ {t l buf notes : List ℕ} {s : Span} {first at row k q : ℕ} {i : cod
   abbrev claims : List Claim
   claims = map claim_of f.done
 
-  line : (j : Instruction) × (next_line t at ≡ one j q) × (i ≡ told_instruction j)
-  line = told-one (k + 1) (next_line t at) turn.told
+  line : (j : Instruction) × (q : ℕ) × (next_line t at ≡ one j q) × (c ≡ told_claim (claim_of j))
+  line = claimed_one (k + 1) (next_line t at) turn.told
 
   more : (rest : List Instruction) × (w.lists.each ≡ f.done ++ (line.0 ∷ rest))
-  more = reached-one f.reached w.lists.read line.1
+  more = reached-one f.reached w.lists.read line.2
 
   abbrev new : Claim
   new = claim_of line.0
@@ -134,7 +135,7 @@ module _ {t l buf notes : List ℕ} {s : Span} {first at row k q : ℕ} {i : cod
   count_is = f.reached.count ∙ sym (length-map f.done claim_of)
 
   own : plain_claim c ≡ new
-  own = claim-told line.0 line.2 turn.made
+  own = ap plain_claim line.3 ∙ claim_held new
 
   claims-parts : list_claims t ≡ claims ++ (new ∷ later)
   claims-parts = claims_each w.lists ∙ ap (map claim_of) more.1 ∙ map-append claim_of f.done (line.0 ∷ more.0)
@@ -159,19 +160,27 @@ module _ {t l buf notes : List ℕ} {s : Span} {first at row k q : ℕ} {i : cod
       let fit = trace_fits first claims valid (omega (arith, count_is, few_claims)) in
       read_trace l first claims w.empty f.bytes fit (omega (arith, w.room, rows_there))
 
-  known_there : Known notes s (trace_row first claims) (length (trace first claims))
-  known_there = subst (Known notes s (trace_row first claims)) row_is f.known
+  known_there : Known p.notes p.span (trace_row first claims) (length (trace first claims))
+  known_there = subst (Known p.notes p.span (trace_row first claims)) row_is f.known
 
   -- the state that is recalled is the one after the claims
-  recalls : (x : Context) → recalled (row_at buf) notes s x ≡ after_claims fresh claims x
+  recalls : (y : Context) → recalled (row_at buf) p.notes p.span y ≡ after_claims fresh claims y
   recalls = recalled-after first claims w.some valid there known_there
 
   room : (row + suc (last_of (plain_claim c))) * row_bytes ≤ length buf
   room =
       omega (arith, w.room, rows_there, ap last_of own, ap length f.bytes, length-sets l (first * row_bytes) (bytes_of (cycles_of 1 fresh claims)), f.rows)
 
+  -- its line ends further on, inside of the text
+  pub turn_further : (at < place_after at (next_line t at)) × (place_after at (next_line t at) ≤ length t)
+  turn_further = rw line.2 (one_inside t at line.2)
+
+  -- and it is one line more
+  pub turn_counted : lines_after k (next_line t at) ≡ suc k
+  turn_counted = rw line.2 refl
+
   -- its cycle may be written next
-  pub turn_writable : NextWritable buf notes s row k (plain_claim c)
+  pub turn_writable : NextWritable buf p row k (plain_claim c)
   turn_writable = record {
     room = room;
     few = omega (arith, w.few, rows_there, ap last_of own, f.rows);
@@ -180,86 +189,31 @@ module _ {t l buf notes : List ℕ} {s : Span} {first at row k q : ℕ} {i : cod
     sound = rw (recalls (context c.context)) (all_sound_claims fresh claims all_sound_fresh (context c.context));
   }
 
-  cycle_is : cycle_of (suc k) (recalled (row_at buf) notes s (context c.context)) (plain_claim c) ≡ cycle_after claims new
+  cycle_is : cycle_of (suc k) (recalled (row_at buf) p.notes p.span (context c.context)) (plain_claim c) ≡ cycle_after claims new
   cycle_is =
       ap (λ (x : State). cycle_of (suc k) x (plain_claim c)) (recalls (context c.context))
       ∙ ap (λ (d : Claim). cycle_of (suc k) (after_claims fresh claims d.context) d) own
       ∙ ap (λ (n : ℕ). cycle_of (suc n) (after_claims fresh claims new.context) new) count_is
 
   -- once it is written at that state and the last of its n rows is noted, one line more was read and its cycle written
-  pub filling_next : {m noted : List ℕ} {u : Span} {n : ℕ} → n ≡ suc (last_of (plain_claim c))
-      → m ≡ sets buf (row * row_bytes) (bytes_of (cycle_of (suc k) (recalled (row_at buf) notes s (context c.context)) (plain_claim c)))
-      → noted ≡ set notes (slot_of (context c.context)) (row + last_of (plain_claim c)) → u ≡ wider s (context c.context)
-      → Filling t l m noted u first q (row + n) (suc k)
+  pub filling_next : {m : List ℕ} {u : Recent} {n : ℕ} → n ≡ suc (last_of (plain_claim c))
+      → m ≡ sets buf (row * row_bytes) (bytes_of (cycle_of (suc k) (recalled (row_at buf) p.notes p.span (context c.context)) (plain_claim c)))
+      → u ≡ noted p (context c.context) (row + last_of (plain_claim c))
+      → Filling t l m u first (place_after at (next_line t at)) (row + n) (lines_after k (next_line t at))
   unfolding trace
-  filling_next {m} {noted} {u} {n} count e g h =
+  filling_next {m} {u} {n} count e g =
       let with : map claim_of (f.done ++ (line.0 ∷ [])) ≡ claims ++ (new ∷ []) = map-append claim_of f.done (line.0 ∷ []) in
       let rows : cycles_of 1 fresh (claims ++ (new ∷ [])) ≡ cycles_of 1 fresh claims ++ cycle_after claims new = trace_snoc 0 claims new in
       let written : m ≡ sets buf ((first + rows_of_claims claims) * row_bytes) (bytes_of (cycle_after claims new)) =
-      e ∙ ap₂ (λ (p : ℕ) (xs : List Cells). sets buf (p * row_bytes) (bytes_of xs)) f.rows cycle_is in
+      e ∙ ap₂ (λ (r : ℕ) (xs : List Cells). sets buf (r * row_bytes) (bytes_of xs)) f.rows cycle_is in
       let end : row + n ≡ length (trace first claims) + suc (last_of new) = omega (arith, row_is, count, ap last_of own) in
-      let latest : noted ≡ set notes (slot_of new.context) (length (trace first claims) + last_of new) =
-      g ∙ ap₂ (λ (d : Claim) (p : ℕ). set notes (slot_of d.context) (p + last_of d)) own row_is in
-      let wide : u ≡ wider s new.context = h ∙ ap (λ (d : Claim). wider s d.context) own in
-      record {
+      let latest : u ≡ noted p new.context (length (trace first claims) + last_of new) =
+      g ∙ ap₂ (λ (d : Claim) (r : ℕ). noted p d.context (r + last_of d)) own row_is in
+      let filled : Filling t l m u first line.1 (row + n) (suc k) = record {
         done = f.done ++ (line.0 ∷ []);
-        reached = (reached_next f.reached line.1).0;
+        reached = (reached_next f.reached line.2).0;
         rows = rw (with, rows_snoc claims new) (omega (arith, f.rows, count, ap last_of own));
         bytes = rw (with, rows) (write_more l first (rows_of_claims claims) (cycles_of 1 fresh claims) (cycle_after claims new) refl f.bytes written);
-        known = rw (with, latest, wide, end) (known_claim first claims new (omega (arith, row_is, f.rows, w.some)) known_there);
-      }
-
--- ---- both readings
-
--- k lines were read, up to the place `at`, and the rows of their cycles counted; the cycles are written where they are to be, and else nothing is
-pub record Passing (writes : Bool) (t l buf notes : List ℕ) (s : Span) (first at row k : ℕ) : Type 0 where
-  pub counted : Counted t at k (row - first)
-  pub ahead : first ≤ row
-  pub filling : writes ≡ true → Filling t l buf notes s first at row k
-  pub kept : writes ≡ false → buf ≡ l
-
-pub passing_first : (writes : Bool) (t l : List ℕ) (first : ℕ) → Passing writes t l l (replicate slots 0) no_span first 0 first 0
-passing_first writes t l first =
-    let none : first - first ≡ 0 = omega arith in
-    record { counted = rw none (counted_start t); ahead = omega arith; filling = λ e. filling_first t l first; kept = λ e. refl }
-
-module _ {writes : Bool} {t l buf notes : List ℕ} {s : Span} {first at row k : ℕ} (p : Passing writes t l buf notes s first at row k) where
-  -- there are as many bytes as before
-  pub length-kept : length buf ≡ length l
-  length-kept = by writes refl
-    where
-      by : (w : Bool) → writes ≡ w → length buf ≡ length l
-      by true e =
-          let f = p.filling e in
-          ap length f.bytes ∙ length-sets l (first * row_bytes) (bytes_of (cycles_of 1 fresh (map claim_of f.done)))
-      by false e = ap length (p.kept e)
-
-  module _ (asked : writes ≡ true → Writable t l first) where
-    -- behind the last line the cycles of all of them are written, where they are to be
-    pub passing_end : (n : ℕ) → told_next n (next_line t at) ≡ next.End → buf ≡ cycles_written writes first (list_claims t) l
-    passing_end n e = by writes refl
-      where
-        by : (w : Bool) → writes ≡ w → buf ≡ cycles_written writes first (list_claims t) l
-        by true h = rw h (filling_end (asked h).lists (p.filling h) n e)
-        by false h = rw h (p.kept h)
-
-    -- a list with a line that is refused is not to be written
-    pub passing_refused : (n : ℕ) {w : Refusal} {q : ℕ} → told_next n (next_line t at) ≡ next.Refused w q → buf ≡ cycles_written writes first (list_claims t) l
-    passing_refused n e = by writes refl
-      where
-        by : (w : Bool) → writes ≡ w → buf ≡ cycles_written writes first (list_claims t) l
-        by true h = absurd (filling_right (asked h).lists (p.filling h) n e)
-        by false h = rw h (p.kept h)
-
-  -- one line more, whose cycle is written where it is to be
-  pub passing_next : {q : ℕ} {m noted : List ℕ} {u : Span} {n : ℕ}
-      → More t at k (row - first) q n → (writes ≡ true → Filling t l m noted u first q (row + n) (suc k)) → (writes ≡ false → m ≡ buf)
-      → Passing writes t l m noted u first q (row + n) (k + 1)
-  passing_next {n = n} more filled same =
-      let there : row + n - first ≡ row - first + n = omega (arith, p.ahead) in
-      record {
-        counted = rw there more.counted;
-        ahead = omega (arith, p.ahead);
-        filling = λ e. rw add-one (filled e);
-        kept = λ e. same e ∙ p.kept e;
-      }
+        known = rw (with, latest, end) (known_claim first claims new (omega (arith, row_is, f.rows, w.some)) known_there);
+      } in
+      subst (λ (x : Next). Filling t l m u first (place_after at x) (row + n) (lines_after k x)) (sym line.2) filled

@@ -1,2 +1,3 @@
 -- The definitions of `lines`.
 pub mod Lines
+pub mod Reading

@@ -18,9 +18,11 @@ use Rattle.form.proofs.TextLaws.{chars_append, stands_split, stands_join, stands
 use Rattle.model.specs.Promises.{Valid}
 use Rattle.claim.specs.Claims.{claim_of}
 use Rattle.claim.specs.Instruction as line
-use Rattle.claim.specs.Instruction.{Fields, Instruction, Decoded, decode, Sized}
+use Rattle.claim.specs.Instruction.{Fields, Instruction, Decoded, decode, Sized, Answer, cn_is_zero, op_not_listed, field_unused, instruction}
+use Rattle.refusal.specs.Refusals.{not_of_form, cn_zero, not_listed, unused_field}
+use Rattle.refusal.proofs.NumberLaws.{number_in_line, line_in_line}
 use Rattle.claim.specs.Paper.{Decodes, none, more}
-use Rattle.claim.proofs.ClaimLaws.{line_valid}
+use Rattle.claim.proofs.ClaimLaws.{line_valid, decode_cases}
 use Rattle.list.specs.Line.{LineRoom, print_line, read_line}
 use Rattle.list.specs.List as list
 use Rattle.list.specs.List.{Next, decided, before, next_of, next_line, Listed, instructions, refused_in, list_by, list_from, read_list, before_all, LinesRoom, print_lines}
@@ -139,10 +141,34 @@ pub first_refused : {fs : List Fields} {is : List Instruction} → Decodes fs is
 unfolding list_from
 first_refused {is = is} d room k t p l st e = rw (lines_first d room (suc k) t p l st, list_from, e, all_refused is)
 
+-- a line is refused with a number from 3 to 6
+refused_by : {f : Fields} {d : Decoded} (n : ℕ) → Answer f d → d ≡ line.refused n → (3 ≤ n) × (n ≤ 6)
+refused_by n (cn_is_zero z) e = let same : cn_zero ≡ n = cc in (omega arith, omega arith)
+refused_by n (op_not_listed s z) e = let same : not_listed ≡ n = cc in (omega arith, omega arith)
+refused_by n (field_unused s k z) e = let same : unused_field ≡ n = cc in (omega arith, omega arith)
+refused_by n (instruction s k z) e = clash cc
+
+next_refused : (t : List ℕ) (p : ℕ) {n q : ℕ} → next_line t p ≡ list.refused n q → (3 ≤ n) × (n ≤ 6)
+unfolding next_line
+next_refused t p {n} {q} = by (leb (length t) p) (read_line t p)
+  where
+    decides : (f : Fields) (r : ℕ) (d : Decoded) → decode f ≡ d → decided r d ≡ list.refused n q → (3 ≤ n) × (n ≤ 6)
+    decides f r (line.decoded j) e h = clash cc
+    decides f r (line.refused m) e h = refused_by n ((decode_cases f (line.refused m)).0 e) cc
+
+    by : (b : Bool) (r : Read Fields) → pick b list.end (next_of r) ≡ list.refused n q → (3 ≤ n) × (n ≤ 6)
+    by true r h = clash cc
+    by false (stop o) h = let same : not_of_form ≡ n = cc in (omega arith, omega arith)
+    by false (got f o) h = decides f o (decode f) refl h
+
 -- what `next_line` answers to a refused line, in document 01's numbers
 pub refused_numbers : (t : List ℕ) (at l : ℕ) {n q : ℕ} → next_line t at ≡ list.refused n q
     → next_numbers (told_next l (next_line t at)) ≡ record { refused = n; line = l; at = q }
-refused_numbers t at l e = rw e
+refused_numbers t at l {n} {q} e =
+    let m = next_refused t at e in
+    let number = number_in_line n l (omega (arith, m.0)) (omega (arith, m.1)) in
+    let line = line_in_line n l m.0 m.1 in
+    rw e (λ i. record { refused = number i; line = line i; at = q })
 
 -- ---- a list is lines
 

@@ -5,20 +5,18 @@ use mathlib.Core.Path.{◌≡◌, refl, ◌∙◌}
 use native.Mathlib.Omega.{arith}
 use Rattle.long.specs.Halves.{whole}
 use Rattle.long.specs.declared.Long.{Long}
-use Rattle.number.proofs.TestLaws.{clash}
 use Rattle.form.specs.Form.{Field, room, read_kind, read_field, read_form}
 use Rattle.form.specs.Read.{Read, got, stop, and_then, read_text}
 use Rattle.form.proofs.ReadLaws.{then_got, kind_read}
+use Rattle.std.specs.Prelude.{Some, Ok, Err}
+use Rattle.number.proofs.TestLaws.{clash}
 use Rattle.refusal.specs.declared.Refusal.{Refusal}
 use Rattle.claim.specs.Instruction as spec
 use Rattle.claim.specs.Told.{told_decoded}
-use Rattle.claim.specs.declared.instruction.Decoded.TheVariants as claim
-use Rattle.claim.specs.declared.instruction.Decoded.TheVariants.{Made}
 use Rattle.claim.specs.declared.instruction.Instruction.{Instruction}
-use Rattle.list.specs.Line.{cn_field, op_field, at1_field, len1_field, at2_field, len2_field, line_end, fields_of, read_line, read_two, read_four, closed}
 use Rattle.list.specs.List.{decided}
 use Rattle.list.specs.Told.{told_next}
-use Rattle.list.specs.declared.Next.TheVariants.{One, Refused}
+use Rattle.list.specs.Line.{cn_field, op_field, at1_field, len1_field, at2_field, len2_field, line_end, fields_of, read_line, read_two, read_four, closed}
 
 -- the number of a field has room
 field_room : (f : Field) (t : List ℕ) (p : ℕ) {v q : ℕ} → read_field f t p ≡ got v q → v < room f.kind
@@ -98,11 +96,12 @@ line-parts t p =
 -- ---- what comes next
 
 -- the answer for the fields of a line is what comes next
-pub made_next : (l q : ℕ) (d : spec.Decoded) {i : Instruction} → told_decoded l d ≡ Made i → One i q ≡ told_next l (decided q d)
+pub made_next : (l q : ℕ) (d : spec.Decoded) {i : Instruction} → Ok i ≡ told_decoded l d
+    → Ok (Some (record { instruction = i; next = q })) ≡ told_next l (decided q d)
 made_next l q (spec.decoded j) e = cc
 made_next l q (spec.refused n) e = clash cc
 
 -- a refusal of the fields is what comes next, without a place
-pub refused_next : (l q : ℕ) (d : spec.Decoded) {w : Refusal} → told_decoded l d ≡ claim.Refused w → Refused w 0 ≡ told_next l (decided q d)
+pub refused_next : (l q : ℕ) (d : spec.Decoded) {w : Refusal} → Err w ≡ told_decoded l d → Err (record { why = w; at = 0 }) ≡ told_next l (decided q d)
 refused_next l q (spec.decoded j) e = clash cc
 refused_next l q (spec.refused n) e = cc

@@ -1,47 +1,38 @@
 -- The code's answers as those of the definitions, and back.
-use Rattle.std.specs.Prelude.{ℕ, List, [], ◌∷◌}
+use Rattle.std.specs.Prelude.{ℕ, List, [], ◌∷◌, Option, Some, None, Result, Ok, Err}
 use Rattle.long.specs.Halves.{whole}
-use Rattle.form.specs.Read.{Read, got, stop}
+use Rattle.form.specs.Plain.{told}
+use Rattle.form.specs.Read.{Read}
+use Rattle.form.specs.declared.Read as code
+use Rattle.form.specs.declared.Stop.{Stop}
+use Rattle.refusal.specs.Refusals as refusal
 use Rattle.refusal.specs.Refusals.{in_line}
 use Rattle.claim.specs.Instruction as plain
 use Rattle.claim.specs.Told.{plain_fields, told_instruction}
+use Rattle.claim.specs.declared.instruction.Fields.{Fields}
+use Rattle.claim.specs.declared.instruction.Range.{Range}
 use Rattle.list.specs.List as spec
 use Rattle.list.specs.declared.line.Head.{Head}
-use Rattle.list.specs.declared.line.Head.TheVariants as h
-use Rattle.list.specs.declared.line.OneRange.{OneRange}
-use Rattle.list.specs.declared.line.OneRange.TheVariants as r
-use Rattle.list.specs.declared.line.Ranges.{Ranges}
-use Rattle.list.specs.declared.line.Ranges.TheVariants as s
-use Rattle.list.specs.declared.line.Line.{Line}
-use Rattle.list.specs.declared.line.Line.TheVariants as l
-use Rattle.list.specs.declared.Next.{Next}
-use Rattle.list.specs.declared.Next.TheVariants.{End, One, Refused}
+use Rattle.list.specs.declared.Listed.{Listed}
+use Rattle.list.specs.declared.Rejected.{Rejected}
 
 -- cn and op
-abbrev pub head_read : Head → Read (List ℕ)
-head_read (h.Got cn op p) = got (cn ∷ op ∷ []) p
-head_read (h.Stop p) = stop p
+abbrev pub head_values : Head → List ℕ
+head_values h = h.cn ∷ h.op ∷ []
 
 -- an offset and a length
-abbrev pub range_read : OneRange → Read (List ℕ)
-range_read (r.Got x p) = got (whole x.at ∷ whole x.len ∷ []) p
-range_read (r.Stop p) = stop p
-
--- two of them
-abbrev pub ranges_read : Ranges → Read (List ℕ)
-ranges_read (s.Got x y p) = got (whole x.at ∷ whole x.len ∷ whole y.at ∷ whole y.len ∷ []) p
-ranges_read (s.Stop p) = stop p
+abbrev pub range_values : Range → List ℕ
+range_values r = whole r.at ∷ whole r.len ∷ []
 
 -- a line
-abbrev pub line_read : Line → Read plain.Fields
-line_read (l.Got f p) = got (plain_fields f) p
-line_read (l.Stop p) = stop p
+abbrev pub line_read : Result (code.Read Fields) Stop → Read plain.Fields
+line_read r = told plain_fields r
 
 -- what stands in a list at a place, where the line has this number
-abbrev pub told_next : (line : ℕ) → spec.Next → Next
-told_next line spec.end = End
-told_next line (spec.one i next) = One (told_instruction i) next
-told_next line (spec.refused n at) = Refused (in_line n line) at
+abbrev pub told_next : (line : ℕ) → spec.Next → Result (Option Listed) Rejected
+told_next line spec.end = Ok None
+told_next line (spec.one i next) = Ok (Some (record { instruction = told_instruction i; next = next }))
+told_next line (spec.refused n at) = Err (record { why = in_line n line; at = at })
 
 -- the numbers of a refusal, and the place that goes with it
 pub record NextNumbers : Type 0 where
@@ -50,7 +41,6 @@ pub record NextNumbers : Type 0 where
   pub at : ℕ
 
 -- 3 to 6 give the line; all other result fields are 0
-abbrev pub next_numbers : Next → NextNumbers
-next_numbers End = record { refused = 0; line = 0; at = 0 }
-next_numbers (One i next) = record { refused = 0; line = 0; at = 0 }
-next_numbers (Refused r at) = record { refused = r.number; line = r.line; at = at }
+abbrev pub next_numbers : Result (Option Listed) Rejected → NextNumbers
+next_numbers (Ok o) = record { refused = 0; line = 0; at = 0 }
+next_numbers (Err r) = record { refused = refusal.number r.why; line = refusal.line r.why; at = r.at }

@@ -1,4 +1,4 @@
-// The stage's calls, over numbers and byte slices alone, an answer for every input. `mxp_c` exports them to programs in C and Rust.
+// The stage's calls, over numbers and byte slices alone, an answer for every input. Each has a name and an array of its own, as the C interface has it. `mxp_c` exports them to programs in C and Rust.
 // The numbers of an answer are written to an array that the caller lends, by the layouts of `out`.
 #![tactic(auto)]
 

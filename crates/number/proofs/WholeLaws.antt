@@ -1,19 +1,21 @@
 -- Laws of the number that a value of 17 bytes holds. `omega` takes no number past 38 digits, so each is one law at base 2 ^ 64,
 -- used twice: the last part, and the two parts before it as one number.
 use Prim.Native.Nat.{ℕ, ◌+◌, ◌*◌, ◌-◌, ◌/◌, ◌%◌, ◌^◌, ◌<◌, ◌≤◌}
-use mathlib.Core.Bool.{true, ◌&&◌, ◌||◌}
+use mathlib.Core.Bool.{true, ◌&&◌}
 use mathlib.Core.List.{List, ◌++◌, append_assoc}
 use mathlib.Core.Logic.{⊎_elim}
 use mathlib.Core.Path.{◌≡◌, sym, ap, ◌∙◌}
-use native.Mathlib.Nat.{add-mul, mul_assoc, mul_left_comm, mul-le-mul_right, suc-mul, zero-mul, one-mul, mod-eq_of_lt, mul-add-mod_self_right, eq-or-lt_of_le, eq-zero-or-pos}
+use native.Mathlib.Nat.{add-mul, mul_assoc, mul_left_comm, mul-le-mul_right, suc-mul, zero-mul, one-mul, mod-eq_of_lt, mul-add-mod_self_right, eq-zero-or-pos}
 use native.Mathlib.Omega.{arith}
-use lib.Dec.{eqb, ltb}
-use borrow.Author.Tests.{eq-eqb, eqb-true, lt-ltb, ltb-true}
+use lib.Dec.{eqb}
+use Rattle.std.specs.Ordering.{nat_cmp, ordering_then}
+use Rattle.std.proofs.lemmas.Bool.Decides.{nat_tests}
+use borrow.Author.Tests.{eq-eqb, eqb-true}
 use Rattle.number.specs.Num.{num, be}
 use Rattle.number.specs.Whole.{val, wide}
 use Rattle.number.specs.declared.wide.Wide.{Wide}
 use Rattle.number.proofs.NumLaws.{num-add, be-add}
-use Rattle.number.proofs.TestLaws.{same_test, both, both_intro, either, either_left, either_right}
+use Rattle.number.proofs.TestLaws.{same_test, both, both_intro}
 
 -- ---- a number by its parts
 
@@ -44,36 +46,10 @@ parts-equal : {x y u v : ℕ} → y < 2 ^ 64 → v < 2 ^ 64 → x * 2 ^ 64 + y �
 parts-equal hy hv e = omega arith
 
 eqb-parts : (x y u v : ℕ) → y < 2 ^ 64 → v < 2 ^ 64 → (eqb x u && eqb y v) ≡ eqb (x * 2 ^ 64 + y) (u * 2 ^ 64 + v)
-eqb-parts x y u v hy hv = same_test (eqb x u && eqb y v) (eqb (x * 2 ^ 64 + y) (u * 2 ^ 64 + v)) there back
-  where
-    there : (eqb x u && eqb y v) ≡ true → eqb (x * 2 ^ 64 + y) (u * 2 ^ 64 + v) ≡ true
-    there e =
-        let h = both (eqb x u) (eqb y v) e in
-        eq-eqb (x * 2 ^ 64 + y) (u * 2 ^ 64 + v) (omega (arith, eqb-true x u h.0, eqb-true y v h.1))
+eqb-parts x y u v hy hv = grind (arith, nat_tests)
 
-    back : eqb (x * 2 ^ 64 + y) (u * 2 ^ 64 + v) ≡ true → (eqb x u && eqb y v) ≡ true
-    back e =
-        let q = parts-equal hy hv (eqb-true (x * 2 ^ 64 + y) (u * 2 ^ 64 + v) e) in
-        both_intro (eqb x u) (eqb y v) (eq-eqb x u q.0) (eq-eqb y v q.1)
-
-ltb-parts : (x y u v : ℕ) → y < 2 ^ 64 → v < 2 ^ 64 → (ltb x u || (eqb x u && ltb y v)) ≡ ltb (x * 2 ^ 64 + y) (u * 2 ^ 64 + v)
-ltb-parts x y u v hy hv = same_test (ltb x u || (eqb x u && ltb y v)) (ltb (x * 2 ^ 64 + y) (u * 2 ^ 64 + v)) there back
-  where
-    there : (ltb x u || (eqb x u && ltb y v)) ≡ true → ltb (x * 2 ^ 64 + y) (u * 2 ^ 64 + v) ≡ true
-    there e =
-        lt-ltb (x * 2 ^ 64 + y) (u * 2 ^ 64 + v)
-        (⊎_elim (λ f. omega (arith, ltb-true x u f))
-        (λ f.
-        let h = both (eqb x u) (ltb y v) f in
-        omega (arith, eqb-true x u h.0, ltb-true y v h.1))
-        (either (ltb x u) (eqb x u && ltb y v) e))
-
-    back : ltb (x * 2 ^ 64 + y) (u * 2 ^ 64 + v) ≡ true → (ltb x u || (eqb x u && ltb y v)) ≡ true
-    back e =
-        let q = ltb-true (x * 2 ^ 64 + y) (u * 2 ^ 64 + v) e in
-        ⊎_elim (λ f. either_right (ltb x u) (eqb x u && ltb y v) (both_intro (eqb x u) (ltb y v) (eq-eqb x u f) (lt-ltb y v (omega arith))))
-        (λ f. either_left (ltb x u) (eqb x u && ltb y v) (lt-ltb x u f))
-        (eq-or-lt_of_le {n = x} {m = u} (omega arith))
+cmp-parts : (x y u v : ℕ) → y < 2 ^ 64 → v < 2 ^ 64 → ordering_then (nat_cmp x u) (nat_cmp y v) ≡ nat_cmp (x * 2 ^ 64 + y) (u * 2 ^ 64 + v)
+cmp-parts x y u v hy hv = grind (arith, nat_tests)
 
 module _ (a b : Wide) (ah : a.hi < 2 ^ 64) (al : a.lo < 2 ^ 64) (bh : b.hi < 2 ^ 64) (bl : b.lo < 2 ^ 64) where
   -- a number has one value of 17 bytes
@@ -92,12 +68,11 @@ module _ (a b : Wide) (ah : a.hi < 2 ^ 64) (al : a.lo < 2 ^ 64) (bh : b.hi < 2 ^
   unfolding val
   eqb-val = rw heads (eqb-parts (a.top * 2 ^ 64 + a.hi) a.lo (b.top * 2 ^ 64 + b.hi) b.lo al bl)
 
-  pub ltb-val : ((ltb a.top b.top || (eqb a.top b.top && ltb a.hi b.hi))
-      || ((eqb a.top b.top && eqb a.hi b.hi) && ltb a.lo b.lo)) ≡ ltb (val a) (val b)
+  pub cmp-val : ordering_then (ordering_then (nat_cmp a.top b.top) (nat_cmp a.hi b.hi)) (nat_cmp a.lo b.lo) ≡ nat_cmp (val a) (val b)
   unfolding val
-  ltb-val =
-      rw (heads, ltb-parts a.top a.hi b.top b.hi ah bh)
-      (ltb-parts (a.top * 2 ^ 64 + a.hi) a.lo (b.top * 2 ^ 64 + b.hi) b.lo al bl)
+  cmp-val =
+      rw (cmp-parts a.top a.hi b.top b.hi ah bh)
+      (cmp-parts (a.top * 2 ^ 64 + a.hi) a.lo (b.top * 2 ^ 64 + b.hi) b.lo al bl)
 
 -- ---- a byte more
 

@@ -1,6 +1,12 @@
 // Values of 17 bytes, the width of END1, END2 and ACC1, as whole numbers.
+ghost use Rattle.std.proofs.Common.{rules};
+ghost use Rattle.std.specs.Cmp.{partial_order_from_own_ties};
+ghost use Rattle.std.specs.Cmp.Rules.{comparing};
+ghost use Rattle.std.specs.Ordering.{as_partial_cmp, nat_cmp, on};
 ghost use Rattle.std.specs.Prelude.{◌≡◌, ◌+◌, ◌*◌, ◌-◌, ◌^◌, eqb, ltb};
 ghost use Rattle.number.specs.Whole.{val, bound};
+
+use std::cmp::Ordering;
 
 // The first byte, the next 8 bytes and the last 8.
 #[derive(Clone, Copy)]
@@ -16,31 +22,73 @@ pub const BOUND: u64 = 16777216;
 // What the first of eight bytes counts, 2^56: a shift by one byte moves that byte on to the part before.
 const FIRST_OF_EIGHT: u64 = 72057594037927936;
 
-// The 17 bytes of a small number.
-pub fn small(n: u64) -> Wide
-    ensures { val result ≡ n }
-{
-    Wide {
-        top: 0,
-        hi: 0,
-        lo: n,
+// Values are compared as the numbers that they hold. By hand: a derive would tell callers of three parts, and not of the number. Equality tests every part,
+// with no branch between.
+impl PartialEq for Wide {
+    ghost eq = { on val eqb };
+
+    ghost laws = { Prim.search (comparing, rules) };
+
+    fn eq(&self, other: &Wide) -> bool {
+        (self.top == other.top) & (self.hi == other.hi) & (self.lo == other.lo)
     }
 }
 
-// Whether a and b are equal.
-pub fn same(a: Wide, b: Wide) -> bool
-    ensures { result ≡ eqb (val a) (val b) }
-{
-    (a.top == b.top) & (a.hi == b.hi) & (a.lo == b.lo)
+impl Eq for Wide {
+    ghost laws = { Prim.search (comparing, rules) };
 }
 
-// Whether a is below b.
-pub fn less(a: Wide, b: Wide) -> bool
-    ensures { result ≡ ltb (val a) (val b) }
+impl Ord for Wide {
+    ghost cmp = { on val nat_cmp };
+
+    ghost total = { Prim.search (comparing, rules) };
+
+    ghost matches_partial_cmp = { Prim.search (comparing, rules) };
+
+    ghost matches_eq = { Prim.search (comparing, rules) };
+
+    fn cmp(&self, other: &Wide) -> Ordering {
+        order_of(*self, *other)
+    }
+}
+
+impl PartialOrd for Wide {
+    ghost partial_cmp = { as_partial_cmp (on val nat_cmp) };
+
+    ghost laws = { partial_order_from_own_ties (Prim.search (comparing, rules)) (Prim.search (comparing, rules)) };
+
+    fn partial_cmp(&self, other: &Wide) -> Option<Ordering> {
+        Some(self.cmp(other))
+    }
+}
+
+// How a stands to b: the first parts that differ decide.
+fn order_of(a: Wide, b: Wide) -> Ordering
+    ensures { result ≡ nat_cmp (val a) (val b) }
 {
-    (a.top < b.top)
-        | ((a.top == b.top) & (a.hi < b.hi))
-        | ((a.top == b.top) & (a.hi == b.hi) & (a.lo < b.lo))
+    (a.top, a.hi, a.lo).cmp(&(b.top, b.hi, b.lo))
+}
+
+// The 17 bytes of a small number.
+impl From<u64> for Wide {
+    ghost from_gives = { λ n w. val w ≡ n };
+
+    fn from(n: u64) -> Wide {
+        Wide {
+            top: 0,
+            hi: 0,
+            lo: n,
+        }
+    }
+}
+
+// Zero. By hand, as `==` and `cmp` are: a caller learns the number, and not three parts of it.
+impl Default for Wide {
+    ghost is_default = { λ w. val w ≡ 0 };
+
+    fn default() -> Wide {
+        Wide::from(0)
+    }
 }
 
 // 256 times p, plus the byte b, but for p's first byte, for which there is no room.
@@ -60,7 +108,7 @@ pub fn push(p: Wide, b: u8) -> Wide
 pub fn is_next(a: Wide, p: Wide, b: u8) -> bool
     ensures { result ≡ eqb (val a) (256 * val p + b) }
 {
-    (p.top == 0) & same(a, push(p, b))
+    (p.top == 0) & (a == push(p, b))
 }
 
 // a less n, and 0 where n is the larger.
@@ -89,14 +137,14 @@ pub fn minus(a: Wide, n: u64) -> Wide
             lo,
         };
     }
-    small(0)
+    Wide::from(0)
 }
 
 // Whether a is in bounds.
 pub fn in_bounds(a: Wide) -> bool
     ensures { result ≡ ltb (val a) bound }
 {
-    less(a, small(BOUND))
+    a < Wide::from(BOUND)
 }
 
 // a less 2^24, and 0 where a is in bounds.

@@ -1,21 +1,23 @@
--- The code's table of opcodes: what is proved of it by tests that the checker computes, and the search in it.
-use Prim.Native.Nat.{ℕ, zero, suc, ◌+◌, ◌<◌, ◌≤◌}
+-- The code's table of opcodes: what is proved of it by tests that the checker computes.
+use Prim.Native.Nat.{ℕ, zero, suc, ◌<◌}
 use mathlib.Core.Bool.{Bool, true, false, false≢true, not, ◌&&◌}
 use mathlib.Core.List.{List, [], ◌∷◌, map}
 use mathlib.Core.Logic.{◌↔◌, ◌≢◌, ⊎_elim}
 use mathlib.Core.Path.{◌≡◌, refl, sym, ◌∙◌, ap}
 use native.Mathlib.Nat.{le_of_suc-le-suc, not-suc-le-zero}
-use native.Mathlib.Numerals.{add-one}
-use native.Mathlib.Omega.{arith}
 use borrow.Author.Tests.{eq-eqb, ne_eqb, eqb-true, eqb-false}
 use lib.Dec.{T, eqb, ltb, eqb→eq, ltb→lt}
-use lib.ListN.{length, get_or, drop, drop_of_length-le}
-use lib.Seq.{drop-cons}
+use lib.ListN.{length, get_or}
 use Rattle.number.specs.Tables.{every}
 use Rattle.number.specs.Tests.{pick}
 use Rattle.number.proofs.TableLaws.{every_at, and_left, and_right}
 use Rattle.number.proofs.TestLaws.{either, is_true}
-use Rattle.opcode.specs.Opcodes.{unlisted, Listed, listed, among, category_by, category_of}
+use Rattle.std.specs.Prelude.{Option, None, Some, option_map}
+use Rattle.std.specs.List.{find}
+use Rattle.opcode.specs.Opcodes.{unlisted, Listed, listed, among, category_by, category_of, category_number, number_of}
+use Rattle.opcode.specs.Opcodes.{touches_nothing, touches_word, touches_byte, touches_range, touches_two}
+use Rattle.opcode.specs.declared.Category.{Category}
+use Rattle.opcode.specs.declared.Category.TheVariants.{Nothing, Word, Byte, Range, TwoRanges}
 use Rattle.opcode.specs.declared.Entry.{Entry}
 
 -- ---- tests at each listed opcode
@@ -58,10 +60,13 @@ exactly_listed ops t u op = (
 
 -- ---- the table
 
--- what the loop finds in entries: the category of the first with the opcode
-unfoldable pub find : ℕ → List Entry → ℕ
-find op [] = unlisted
-find op (e ∷ es) = pick (eqb e.op op) e.category (find op es)
+-- what the code finds in entries: the category of the first with the opcode
+abbrev pub first_with : ℕ → List Entry → Option Category
+first_with op es = option_map (λ (e : Entry). e.category) (find (λ (e : Entry). eqb e.op op) es)
+
+-- its number
+abbrev pub found : ℕ → List Entry → ℕ
+found op es = number_of (first_with op es)
 
 -- the opcodes of entries
 abbrev pub opcodes : List Entry → List ℕ
@@ -74,12 +79,12 @@ rises (x ∷ xs) = every (ltb x) xs && rises xs
 
 -- the search finds a category for an opcode
 abbrev pub finds : List Entry → (category op : ℕ) → Bool
-finds es c op = eqb (find op es) c
+finds es c op = eqb (found op es) c
 
 -- what is proved of the code's table: for each number it gives the category; it has the listed opcodes and no other, 22 of them, in rising order,
 -- so that none stands twice
 pub record Right (es : List Entry) : Type 0 where
-  pub rule : (op : ℕ) → find op es ≡ category_of op
+  pub rule : (op : ℕ) → number_of (first_with op es) ≡ category_of op
   pub exact : (op : ℕ) → (among op (opcodes es) ≡ true) ↔ (category_of op ≢ unlisted)
   pub entries : length es ≡ 22
   pub rising : (i j : ℕ) → i < j → j < length (opcodes es) → get_or (opcodes es) i 0 < get_or (opcodes es) j 0
@@ -92,61 +97,58 @@ rising_at (x ∷ xs) t zero (suc j) l h =
 rising_at (x ∷ xs) t (suc i) (suc j) l h =
     rising_at xs (and_right (every (ltb x) xs) (rises xs) t) i j (le_of_suc-le-suc l) (le_of_suc-le-suc h)
 
+-- the first entry with an opcode, or those after it
+found_step : (op : ℕ) (e : Entry) (es : List Entry) → found op (e ∷ es) ≡ pick (eqb e.op op) (category_number e.category) (found op es)
+found_step op e es = by (eqb e.op op) refl
+  where
+    by : (b : Bool) → eqb e.op op ≡ b → found op (e ∷ es) ≡ pick b (category_number e.category) (found op es)
+    by true q = rw q
+    by false q = rw q
+
 -- where each entry is listed, nothing is found for an opcode that is not
-none_found : (op : ℕ) (es : List Entry) → T (every is_listed (opcodes es)) → category_of op ≡ unlisted → find op es ≡ unlisted
-unfolding find
+none_found : (op : ℕ) (es : List Entry) → T (every is_listed (opcodes es)) → category_of op ≡ unlisted → found op es ≡ unlisted
 none_found op [] t u = refl
 none_found op (e ∷ es) t u =
     let other : e.op ≢ op = λ q. is_listed_lem e.op (and_left (is_listed e.op) (every is_listed (opcodes es)) t) (ap category_of q ∙ u) in
-    rw (ne_eqb e.op op other) (none_found op es (and_right (is_listed e.op) (every is_listed (opcodes es)) t) u)
+    found_step op e es ∙ rw (ne_eqb e.op op other) (none_found op es (and_right (is_listed e.op) (every is_listed (opcodes es)) t) u)
 
-find_rule : (es : List Entry) → T (each_listed (finds es) listed) → T (every is_listed (opcodes es)) → (op : ℕ) → find op es ≡ category_of op
+found_rule : (es : List Entry) → T (each_listed (finds es) listed) → T (every is_listed (opcodes es)) → (op : ℕ) → found op es ≡ category_of op
 unfolding category_of
-find_rule es f t op = by (eqb (category_of op) unlisted) refl
+found_rule es f t op = by (eqb (category_of op) unlisted) refl
   where
-    by : (b : Bool) → eqb (category_of op) unlisted ≡ b → find op es ≡ category_of op
+    by : (b : Bool) → eqb (category_of op) unlisted ≡ b → found op es ≡ category_of op
     by true e =
         let u = eqb-true (category_of op) unlisted e in
         none_found op es t u ∙ sym u
-    by false e = eqb→eq (find op es) (category_of op) (listed_at (finds es) op listed f (eqb-false (category_of op) unlisted e))
+    by false e = eqb→eq (found op es) (category_of op) (listed_at (finds es) op listed f (eqb-false (category_of op) unlisted e))
 
 -- the checker computes that a table is right
 pub right : (es : List Entry) → T (each_listed (finds es) listed) → T (every is_listed (opcodes es))
     → T (each_listed (λ c op. among op (opcodes es)) listed) → length es ≡ 22 → T (rises (opcodes es)) → Right es
 right es f t u n r =
-    record { rule = find_rule es f t; exact = exactly_listed (opcodes es) t u; entries = n; rising = rising_at (opcodes es) r }
+    record {
+      rule = found_rule es f t;
+      exact = exactly_listed (opcodes es) t u;
+      entries = n;
+      rising = rising_at (opcodes es) r;
+    }
 
--- ---- the search
+-- ---- the categories in the code
 
--- the loop stands at entry i: the entries from there on give the category
-pub record Searched (op : ℕ) (es : List Entry) (i : ℕ) : Type 0 where
-  pub inside : i ≤ length es
-  pub rest : find op (drop i es) ≡ category_of op
+-- the category with a number; none for 0
+abbrev pub told_category : ℕ → Option Category
+told_category c =
+    pick (eqb c touches_nothing) (Some Nothing)
+    (pick (eqb c touches_word) (Some Word)
+    (pick (eqb c touches_byte) (Some Byte)
+    (pick (eqb c touches_range) (Some Range)
+    (pick (eqb c touches_two) (Some TwoRanges) None))))
 
--- at its start
-pub begun : {op : ℕ} {es : List Entry} → Right es → Searched op es 0
-begun {op} {es} r = record { inside = omega arith; rest = r.rule op }
-
--- what stands for an entry where there is none
-abbrev none : Entry
-none = record { op = 0; category = unlisted }
-
--- one turn of the loop
-step : (op : ℕ) (es : List Entry) (i : ℕ) → i < length es
-    → find op (drop i es) ≡ pick (eqb (get_or es i none).op op) (get_or es i none).category (find op (drop (suc i) es))
-unfolding find
-step op es i h = ap (find op) (drop-cons es i none h)
-
-module _ {op : ℕ} {es : List Entry} {i : ℕ} (s : Searched op es i) (h : i < length es) where
-  -- the entry there has the opcode
-  pub found : (get_or es i none).op ≡ op → (get_or es i none).category ≡ category_of op
-  found e = sym (rw (eq-eqb (get_or es i none).op op e) at (step op es i h)) ∙ s.rest
-
-  -- it has another
-  pub passed : (get_or es i none).op ≢ op → Searched op es (i + 1)
-  passed n = record { inside = omega arith; rest = rw add-one (sym (rw (ne_eqb (get_or es i none).op op n) at (step op es i h)) ∙ s.rest) }
-
--- after the last entry
-pub ended : {op : ℕ} {es : List Entry} {i : ℕ} → Searched op es i → length es ≤ i → unlisted ≡ category_of op
-unfolding find
-ended {es = es} s h = rw (drop_of_length-le es h) at s.rest
+-- a category is the one with its number
+pub told_number : (k : Option Category) → told_category (number_of k) ≡ k
+told_number None = refl
+told_number (Some Nothing) = refl
+told_number (Some Word) = refl
+told_number (Some Byte) = refl
+told_number (Some Range) = refl
+told_number (Some TwoRanges) = refl

@@ -1,6 +1,8 @@
 -- The opcodes that document 01 lists, by what they touch.
-use Rattle.std.specs.Prelude.{ℕ, Bool, false, ◌||◌, List, [], ◌∷◌, eqb}
+use Rattle.std.specs.Prelude.{ℕ, Bool, false, ◌||◌, List, [], ◌∷◌, Option, None, Some, eqb}
 use Rattle.number.specs.Tests.{pick}
+use Rattle.opcode.specs.declared.Category.{Category}
+use Rattle.opcode.specs.declared.Category.TheVariants.{Nothing, Word, Byte, Range, TwoRanges}
 
 -- the categories: a row of document 01's table each, and 0 for an opcode that is in none
 abbrev pub unlisted : ℕ
@@ -53,3 +55,18 @@ category_by (r ∷ rs) op = pick (among op r.opcodes) r.category (category_by rs
 -- the category of an opcode
 unfoldable pub category_of : ℕ → ℕ
 category_of op = category_by listed op
+
+-- ---- the categories in the code
+
+-- the number of a category
+abbrev pub category_number : Category → ℕ
+category_number Nothing = touches_nothing
+category_number Word = touches_word
+category_number Byte = touches_byte
+category_number Range = touches_range
+category_number TwoRanges = touches_two
+
+-- the same where there may be none
+abbrev pub number_of : Option Category → ℕ
+number_of None = unlisted
+number_of (Some k) = category_number k

@@ -1,27 +1,30 @@
 // The opcodes that a list may have, and what they touch. Only crates of this repository call `category_of`.
 #![tactic(auto)]
 
-ghost use Rattle.std.specs.Prelude.{◌≡◌};
-ghost use Rattle.opcode.specs.Opcodes.{category_of};
+ghost use Rattle.std.specs.Prelude.{◌≡◌, eqb, option_map};
+ghost use Rattle.std.specs.List.{find};
+ghost use Rattle.opcode.specs.Opcodes.{category_of, number_of};
 
-// What an opcode touches, as a number for the table; 0 is for one that is not in it.
-pub const UNLISTED: u8 = 0;
-
-pub const NOTHING: u8 = 1;
-
-pub const WORD: u8 = 2;
-
-pub const BYTE: u8 = 3;
-
-pub const RANGE: u8 = 4;
-
-const TWO_RANGES: u8 = 5;
+// What an opcode touches.
+#[derive(Clone, Copy, PartialEq, Eq, Debug)]
+pub enum Category {
+    // Nothing.
+    Nothing,
+    // A word.
+    Word,
+    // A byte.
+    Byte,
+    // A range of offset and length.
+    Range,
+    // Two of them.
+    TwoRanges,
+}
 
 // An opcode and its category.
 #[derive(Clone, Copy)]
 struct Entry {
     op: u8,
-    category: u8,
+    category: Category,
 }
 
 // How many opcodes there are.
@@ -31,105 +34,107 @@ const OPCODES: usize = 22;
 const TABLE: [Entry; OPCODES] = [
     Entry {
         op: 0x20,
-        category: RANGE,
+        category: Category::Range,
     },
     Entry {
         op: 0x37,
-        category: RANGE,
+        category: Category::Range,
     },
     Entry {
         op: 0x39,
-        category: RANGE,
+        category: Category::Range,
     },
     Entry {
         op: 0x3c,
-        category: RANGE,
+        category: Category::Range,
     },
     Entry {
         op: 0x3e,
-        category: RANGE,
+        category: Category::Range,
     },
     Entry {
         op: 0x51,
-        category: WORD,
+        category: Category::Word,
     },
     Entry {
         op: 0x52,
-        category: WORD,
+        category: Category::Word,
     },
     Entry {
         op: 0x53,
-        category: BYTE,
+        category: Category::Byte,
     },
     Entry {
         op: 0x59,
-        category: NOTHING,
+        category: Category::Nothing,
     },
     Entry {
         op: 0xa0,
-        category: RANGE,
+        category: Category::Range,
     },
     Entry {
         op: 0xa1,
-        category: RANGE,
+        category: Category::Range,
     },
     Entry {
         op: 0xa2,
-        category: RANGE,
+        category: Category::Range,
     },
     Entry {
         op: 0xa3,
-        category: RANGE,
+        category: Category::Range,
     },
     Entry {
         op: 0xa4,
-        category: RANGE,
+        category: Category::Range,
     },
     Entry {
         op: 0xf0,
-        category: RANGE,
+        category: Category::Range,
     },
     Entry {
         op: 0xf1,
-        category: TWO_RANGES,
+        category: Category::TwoRanges,
     },
     Entry {
         op: 0xf2,
-        category: TWO_RANGES,
+        category: Category::TwoRanges,
     },
     Entry {
         op: 0xf3,
-        category: RANGE,
+        category: Category::Range,
     },
     Entry {
         op: 0xf4,
-        category: TWO_RANGES,
+        category: Category::TwoRanges,
     },
     Entry {
         op: 0xf5,
-        category: RANGE,
+        category: Category::Range,
     },
     Entry {
         op: 0xfa,
-        category: TWO_RANGES,
+        category: Category::TwoRanges,
     },
     Entry {
         op: 0xfd,
-        category: RANGE,
+        category: Category::Range,
     },
 ];
 
-// The category of an opcode.
-pub fn category_of(op: u8) -> u8
-    ensures { result ≡ category_of op }
+// The category of the first entry with an opcode, or none.
+fn category_in(table: &[Entry], op: u8) -> Option<Category>
+    ensures { result ≡ option_map (λ e. e.category) (find (λ e. eqb e.op op) table.now) }
 {
-    let table = TABLE;
-    let mut i: usize = 0;
-    while i < OPCODES {
-        if table[i].op == op {
-            return table[i].category;
-        }
-        i += 1;
-    }
-    UNLISTED
+    table
+        .iter()
+        .find(|entry| entry.op == op)
+        .map(|entry| entry.category)
+}
+
+// The category of an opcode; none where it is not in the table.
+pub fn category_of(op: u8) -> Option<Category>
+    ensures { number_of result ≡ category_of op }
+{
+    category_in(&TABLE, op)
 }

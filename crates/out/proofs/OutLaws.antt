@@ -4,11 +4,11 @@ use mathlib.Core.List.{List, [], ◌∷◌}
 use mathlib.Core.Path.{◌≡◌, refl}
 use native.Mathlib.Omega.{arith}
 use borrow.Author.Tests.{eq-eqb, ne_eqb}
+use Rattle.std.specs.Prelude.{Ok}
 use Rattle.number.proofs.WholeLaws.{wide_is}
 use Rattle.model.specs.Columns.{row_bytes}
 use Rattle.claim.specs.declared.claim.Claim.{Claim}
 use Rattle.trace.specs.Told.{claim_numbers}
-use Rattle.trace.specs.declared.place.Claimed.TheVariants.{Is}
 use Rattle.out.specs.Out.{claim_list, step_between}
 
 -- the numbers for a claim as the code lays them out: its context, and each end by its first byte and two halves
@@ -20,7 +20,7 @@ claim_cells c =
 
 -- a claim whose halves are numbers of 64 bits, by the parts of its ends
 pub claim_out_lem : (c : Claim) → c.end1.hi < 2 ^ 64 → c.end1.lo < 2 ^ 64 → c.end2.hi < 2 ^ 64 → c.end2.lo < 2 ^ 64
-    → claim_cells c ≡ claim_list (claim_numbers (Is c))
+    → claim_cells c ≡ claim_list (claim_numbers (Ok c))
 claim_out_lem c h1 l1 h2 l2 =
     let one = wide_is c.end1 _ refl h1 l1 in
     let two = wide_is c.end2 _ refl h2 l2 in

@@ -11,11 +11,11 @@ ghost use Rattle.walker.specs.Walk.{start_numbers};
 ghost use Rattle.out.specs.Out.{check_list, fill_list, rows_list, claim_list, last_list, open_list, step_list, step_between};
 
 use checker::Verdict;
-use filler::Filled;
-use last::Last;
+use claim::claim::Claim;
 use model::ROW_BYTES;
-use trace::place::{Claimed, Place};
-use walker::Start;
+use refusal::Refusal;
+use state::look::Looked;
+use trace::place::Place;
 
 // A verdict: refused, line, 0, accepted, instructions, oob, empty, row, constraint.
 pub fn put_verdict(verdict: Verdict, out: &mut [u64; 9])
@@ -24,44 +24,44 @@ pub fn put_verdict(verdict: Verdict, out: &mut [u64; 9])
     match verdict {
         Verdict::Accepted(c) => *out = [0, 0, 0, 1, c.instructions, c.oob, c.empty, 0, 0],
         Verdict::Broken { row, constraint } => *out = [0, 0, 0, 0, 0, 0, 0, row, constraint],
-        Verdict::Refused(r) => *out = [r.number, r.line, 0, 0, 0, 0, 0, 0, 0],
+        Verdict::Refused(r) => *out = [r.number(), r.line(), 0, 0, 0, 0, 0, 0, 0],
     }
 }
 
 // What the filler has done: refused, line, 0, rows.
-pub fn put_filled(filled: Filled, out: &mut [u64; 4])
+pub fn put_filled(filled: Result<u64, Refusal>, out: &mut [u64; 4])
     ensures { out.new ≡ fill_list (filler.numbers filled) }
 {
     match filled {
-        Filled::Rows(n) => *out = [0, 0, 0, n],
-        Filled::Refused(r) => *out = [r.number, r.line, 0, 0],
+        Ok(n) => *out = [0, 0, 0, n],
+        Err(r) => *out = [r.number(), r.line(), 0, 0],
     }
 }
 
 // Where an instruction stands: refused, line, 0, first byte of the part, its length in bytes. Only crates of this repository call this function: it
 // asks that the part ends where a number of 64 bits can say.
-pub fn put_place(place: Place, out: &mut [u64; 5])
+pub fn put_place(place: Result<Place, Refusal>, out: &mut [u64; 5])
     requires { (part_numbers place).from + (part_numbers place).bytes < 2 ^ 64 }
     ensures { out.new ≡ rows_list (part_numbers place) }
 {
     match place {
-        Place::At { first, rows } => *out = [
+        Ok(Place { first, rows }) => *out = [
             0,
             0,
             0,
             (first * ROW_BYTES) as u64,
             (rows * ROW_BYTES) as u64,
         ],
-        Place::Refused(r) => *out = [r.number, r.line, 0, 0, 0],
+        Err(r) => *out = [r.number(), r.line(), 0, 0, 0],
     }
 }
 
 // A claim: refused, line, 0, cn, then end 1 and end 2 by their first byte and two halves.
-pub fn put_claimed(claimed: Claimed, out: &mut [u64; 10])
+pub fn put_claimed(claimed: Result<Claim, Refusal>, out: &mut [u64; 10])
     ensures { out.new ≡ claim_list (claim_numbers claimed) }
 {
     match claimed {
-        Claimed::Is(c) => {
+        Ok(c) => {
             *out = [
                 0,
                 0,
@@ -75,16 +75,16 @@ pub fn put_claimed(claimed: Claimed, out: &mut [u64; 10])
                 c.end2.lo,
             ]
         }
-        Claimed::Refused(r) => *out = [r.number, r.line, 0, 0, 0, 0, 0, 0, 0, 0],
+        Err(r) => *out = [r.number(), r.line(), 0, 0, 0, 0, 0, 0, 0, 0],
     }
 }
 
 // The last state of a context: refused, line, 0, mem, cost, looked.
-pub fn put_last(last: Last, out: &mut [u64; 6])
+pub fn put_last(last: Result<Looked, Refusal>, out: &mut [u64; 6])
     ensures { out.new ≡ last_list (last_numbers last) }
 {
     match last {
-        Last::Is(a) => *out = [
+        Ok(a) => *out = [
             0,
             0,
             0,
@@ -92,15 +92,18 @@ pub fn put_last(last: Last, out: &mut [u64; 6])
             a.state.cost.0,
             a.cycles as u64,
         ],
-        Last::Refused(r) => *out = [r.number, r.line, 0, 0, 0, 0],
+        Err(r) => *out = [r.number(), r.line(), 0, 0, 0, 0],
     }
 }
 
 // Where a walker starts: refused, line, 0, next row.
-pub fn put_start(start: Start, out: &mut [u64; 4])
+pub fn put_start(start: Result<usize, Refusal>, out: &mut [u64; 4])
     ensures { out.new ≡ open_list (start_numbers start) }
 {
-    *out = [start.why.number, start.why.line, 0, start.next as u64];
+    match start {
+        Ok(next) => *out = [0, 0, 0, next as u64],
+        Err(why) => *out = [why.number(), why.line(), 0, 0],
+    }
 }
 
 // A step from row `next` to row `after`: first byte of the part, its length in bytes, next row; 0, 0 and the same row where it stays. Only crates of

@@ -7,7 +7,8 @@ ghost use Rattle.model.specs.Cycles.{part, next_row, step};
 ghost use Rattle.model.specs.Promises.{Accepted, empty_in, claims_in};
 
 use model::ROW_BYTES;
-use state::look::cycle_rows_at;
+use row::view::RowBytes;
+use state::look::cycle_rows;
 
 // The row after so many instructions of an accepted trace with so many empty rows. Only crates of this repository call this function: it asks that the
 // trace is accepted.
@@ -18,10 +19,8 @@ pub fn row_after(t: &[u8], empty: usize, passed: u64) -> usize
     ensures { result ≡ next_row (rows_of t.now) passed }
 {
     let mut row = empty;
-    let mut i = 0;
-    while i < passed {
-        row += cycle_rows_at(t, row);
-        i += 1;
+    for _i in 0..passed {
+        row += cycle_rows(&RowBytes::of_row(t, row));
     }
     row
 }
@@ -30,7 +29,7 @@ pub fn row_after(t: &[u8], empty: usize, passed: u64) -> usize
 pub fn is_among(k: u64, instructions: u64) -> bool
     ensures { result ≡ (leb 1 k && leb k instructions) }
 {
-    (1 <= k) & (k <= instructions)
+    (1..=instructions).contains(&k)
 }
 
 // So many rows of the trace from a row on, as a part of the trace itself. Only crates of this repository call this function: it asks that the rows
@@ -40,11 +39,11 @@ pub fn rows_from<'a>(t: &'a [u8], first: usize, rows: usize) -> &'a [u8]
     ensures { result.now ≡ part t.now first rows }
 {
     let from = first * ROW_BYTES;
-    let to = from + rows * ROW_BYTES;
-    &t[from..to]
+    &t[from..from + rows * ROW_BYTES]
 }
 
-// How many rows a step from this row gives: those of its cycle, or none if so many whole rows don't remain.
+// How many rows a step from this row gives: those of its cycle, or none if so many whole rows don't remain: 0 is the
+// count itself, which is added to the row.
 fn rows_given(t: &[u8], next: usize) -> usize
     ensures { next + result ≡ (step t.now next).next }
 {
@@ -52,11 +51,8 @@ fn rows_given(t: &[u8], next: usize) -> usize
     if whole <= next {
         return 0;
     }
-    let rows = cycle_rows_at(t, next);
-    if whole - next < rows {
-        return 0;
-    }
-    rows
+    let rows = cycle_rows(&RowBytes::of_row(t, next));
+    if whole - next < rows { 0 } else { rows }
 }
 
 // The part of the trace that a step from this row gives.
@@ -65,7 +61,7 @@ pub fn part_at<'a>(t: &'a [u8], next: usize) -> &'a [u8]
 {
     let rows = rows_given(t, next);
     if rows == 0 {
-        return &t[0..0];
+        return &[];
     }
     rows_from(t, next, rows)
 }

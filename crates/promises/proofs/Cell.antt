@@ -10,11 +10,6 @@ use Rattle.cell.proofs.read.u32_at.Reads as u32-at
 use Rattle.cell.proofs.read.u48_at.Reads as u48-at
 use Rattle.cell.proofs.read.u64_at.Reads as u64-at
 use Rattle.cell.proofs.read.wide_at.Reads as wide_at
-use Rattle.cell.proofs.join.join_1_1.Reads as join-1-1
-use Rattle.cell.proofs.join.join_4_4.Reads as join-4-4
-use Rattle.cell.proofs.join.join_1_3.Reads as join-1-3
-use Rattle.cell.proofs.join.join_3_3.Reads as join-3-3
-use Rattle.cell.proofs.join.join_2_6.Reads as join-2-6
 use Rattle.cell.proofs.write.put_u8.Reads as put-u8
 use Rattle.cell.proofs.write.put_u16.Reads as put-u16
 use Rattle.cell.proofs.write.put_u24.Reads as put-u24
@@ -46,22 +41,6 @@ one_u64_at = equation (λ a b. refl)
 
 pub one_wide_at : NoSecond wide_at.Post (shared given) (by val)
 one_wide_at = equation (λ a b. refl)
-
--- what stands side by side
-pub one_join_1_1 : NoSecond join-1-1.Post given answer
-one_join_1_1 = equation (λ a b. refl)
-
-pub one_join_4_4 : NoSecond join-4-4.Post given answer
-one_join_4_4 = equation (λ a b. refl)
-
-pub one_join_1_3 : NoSecond join-1-3.Post given answer
-one_join_1_3 = equation (λ a b. refl)
-
-pub one_join_3_3 : NoSecond join-3-3.Post given answer
-one_join_3_3 = equation (λ a b. refl)
-
-pub one_join_2_6 : NoSecond join-2-6.Post given answer
-one_join_2_6 = equation (λ a b. refl)
 
 -- what is left in the lent buffer
 pub one_put_u8 : NoSecond put-u8.Post (ref given) first

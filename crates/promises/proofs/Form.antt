@@ -1,34 +1,34 @@
 -- No second answer meets the contracts of `form`.
 use mathlib.Core.Path.{◌≡◌, refl, sym, ◌∙◌, ap}
+use Rattle.std.specs.Prelude.{ℕ, Result, Ok, Err}
 use Rattle.form.specs.Plain.{matched, number}
 use Rattle.form.specs.Read.{Read, got, stop}
-use Rattle.form.specs.declared.Matched.{Matched}
-use Rattle.form.specs.declared.Matched.TheVariants.{To, Stop}
+use Rattle.form.specs.declared.Stop.{Stop}
 use Rattle.promises.proofs.NoSecond.{NoSecond, no_second, equation, given, shared, answer, by}
-use Rattle.form.proofs.digit_table.Reads as digit-table
+use Rattle.form.proofs.has_char.Reads as has_char
 use Rattle.form.proofs.read_name.Reads as read_name
 use Rattle.form.proofs.read_number.Reads as read_number
 use Rattle.form.proofs.read_pair.Reads as read-pair
 
 -- the code's answer from the one that the definitions read in it
-abbrev code_matched : Read Unit → Matched
-code_matched (got u p) = To p
-code_matched (stop p) = Stop p
+abbrev code_matched : Read Unit → Result ℕ Stop
+code_matched (got u p) = Ok p
+code_matched (stop p) = Err (record { 0 = p })
 
-again : (m : Matched) → code_matched (matched m) ≡ m
-again (To p) = refl
-again (Stop p) = refl
+again : (m : Result ℕ Stop) → code_matched (matched m) ≡ m
+again (Ok p) = refl
+again (Err s) = refl
 
--- the table of digits
-pub one_digit_table : NoSecond digit-table.Post given answer
-one_digit_table = equation (λ a b. refl)
+-- one character
+pub one_has_char : NoSecond has_char.Post (shared given) answer
+one_has_char = equation (λ a b. refl)
 
 -- names and numbers that are read
 pub one_read_name : NoSecond read_name.Post (shared given) answer
 one_read_name = no_second _ (λ κ a v e p. sym (again v) ∙ ap code_matched p) (λ a b. refl)
 
-pub one_read_number : NoSecond read_number.Post (shared (shared given)) (by number)
+pub one_read_number : NoSecond read_number.Post (shared given) (by number)
 one_read_number = equation (λ a b. refl)
 
-pub one_read_pair : NoSecond read-pair.Post (shared (shared given)) (by number)
+pub one_read_pair : NoSecond read-pair.Post (shared given) (by number)
 one_read_pair = equation (λ a b. refl)

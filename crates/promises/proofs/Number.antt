@@ -5,23 +5,11 @@ use mathlib.Core.Path.{◌≡◌, refl}
 use native.Mathlib.Omega.{arith}
 use Rattle.number.specs.Whole.{val}
 use Rattle.promises.proofs.NoSecond.{NoSecond, no_second, equation, given, answer, by}
-use Rattle.number.proofs.wide.small.Reads as small
-use Rattle.number.proofs.wide.same.Reads as same
-use Rattle.number.proofs.wide.less.Reads as less
 use Rattle.number.proofs.wide.is_next.Reads as is-next
 use Rattle.number.proofs.wide.in_bounds.Reads as in_bounds
 use Rattle.number.proofs.wide.minus.Reads as minus
 use Rattle.number.proofs.wide.minus_bound.Reads as minus-bound
 use Rattle.number.proofs.wide.push.Reads as push
-
-pub one_small : NoSecond small.Post given (by val)
-one_small = equation (λ a b. refl)
-
-pub one_same : NoSecond same.Post given answer
-one_same = equation (λ a b. refl)
-
-pub one_less : NoSecond less.Post given answer
-one_less = equation (λ a b. refl)
 
 pub one_is_next : NoSecond is-next.Post given answer
 one_is_next = equation (λ a b. refl)

@@ -1,6 +1,7 @@
 -- No second answer meets the contracts of `trace`.
 use mathlib.Core.Path.{refl}
-use Rattle.promises.proofs.NoSecond.{NoSecond, no_second, equation, given, value, shared, unseen, answer, by, third, both}
+use Rattle.promises.proofs.NoSecond.{NoSecond, equation, given, shared, answer, by}
+use Rattle.trace.specs.Told.{rows_now}
 use Rattle.trace.proofs.admit.admit.Reads as admit
 use Rattle.trace.proofs.place.place_of.Reads as place_of
 use Rattle.trace.proofs.place.claim_at.Reads as claim-at
@@ -16,6 +17,6 @@ one_place_of = equation (λ a b. refl)
 pub one_claim_at : NoSecond claim-at.Post (shared given) answer
 one_claim_at = equation (λ a b. refl)
 
--- its rows, told by their bytes, and why there are none
-pub one_rows_of : NoSecond rows_of_lem.Post (shared (value (unseen given))) (both (by (λ x. x.now)) third)
-one_rows_of = no_second _ (λ κ a v e p. λ i. (p.0 i, p.1 i)) (λ a b. refl)
+-- its rows, told by their bytes, or why there are none
+pub one_rows_of : NoSecond rows_of_lem.Post (shared given) (by rows_now)
+one_rows_of = equation (λ a b. refl)

@@ -13,8 +13,9 @@ use denote.Bor.{Bor}
 use denote.Ref.{MutBor, at_last}
 use denote.Triple.Clauses.{AtExit}
 use denote.Triple.Entry.{Args}
+use Rattle.std.specs.Prelude.{Result}
+use Rattle.refusal.specs.declared.Refusal.{Refusal}
 use Rattle.walker.specs.Walk.{begun, opened, Steps}
-use Rattle.walker.specs.declared.Opened.{Opened}
 use Rattle.walker.specs.declared.Walker.{Walker}
 use Rattle.walker.specs.contracts.open_walker as open-walker
 use Rattle.walker.specs.contracts.step as step
@@ -32,7 +33,7 @@ one_first_part = equation (λ a b. refl)
 -- ---- the calls over a walker itself, whose contracts are read here from their clauses
 
 -- what the two contracts say of an answer and of what was lent
-abbrev pub OpenPost : (κs : Lfts 1) → Args open-walker.signature κs → Opened → AtExit open-walker.ended κs → Type 0
+abbrev pub OpenPost : (κs : Lfts 1) → Args open-walker.signature κs → Result Walker Refusal → AtExit open-walker.ended κs → Type 0
 OpenPost κs a o e = opened o ≡ begun a.0.now
 
 abbrev pub StepPost : (κs : Lfts 2) → Args step.signature κs → Bor (List ℕ) → AtExit step.ended κs → Type 0
@@ -40,7 +41,7 @@ StepPost κs a r e = Steps a.0.now e.0.now r.now
 
 -- the clauses of the contracts are these facts
 module _ {M : Type 1} {𝓤 : Ura M} (𝓛 : Logic 𝓤) (mem : Memory → SProp 𝓤) (run : Routine → Fun 𝓤) where
-  pub open_says : (κs : Lfts 1) (a : Args open-walker.signature κs) (o : Opened) (e : AtExit open-walker.ended κs)
+  pub open_says : (κs : Lfts 1) (a : Args open-walker.signature κs) (o : Result Walker Refusal) (e : AtExit open-walker.ended κs)
       → (open-walker.clauses 𝓛 mem run κs a).ensures tt o e ≡ fact 𝓤 (OpenPost κs a o e)
   open_says κs a o e = refl
 
@@ -58,7 +59,7 @@ walker = record {
   put = λ a i. (at_last a.0 (record { trace = record a.0.now.trace { now = i.0 }; next = i.1 }), tt);
 }
 
--- an opened walker: its refusal, its bytes and its next row
+-- an opened walker, its bytes and its next row, or why there is none
 pub one_open_walker : NoSecond OpenPost (shared given) (by opened)
 one_open_walker = equation (λ a b. refl)
 

@@ -1,6 +1,6 @@
 -- What is known of the rows before a row: for each remainder of CN the latest row in use with it, and the lowest and the highest context of the rows in
 -- use. By them a context's state is found without a look back.
-use Rattle.std.specs.Prelude.{ℕ, zero, suc, ◌+◌, ◌*◌, ◌%◌, ◌<◌, ◌≤◌, Bool, true, false, ◌&&◌, ◌||◌, List, ◌≢◌, ◌≡◌, eqb, length, get_or}
+use Rattle.std.specs.Prelude.{ℕ, zero, suc, ◌+◌, ◌*◌, ◌%◌, ◌<◌, ◌≤◌, Bool, true, false, ◌&&◌, ◌||◌, List, ◌≢◌, ◌≡◌, eqb, length, get_or, set, replicate}
 use Rattle.model.specs.Columns.{Cells, row_bytes}
 use Rattle.model.specs.Constraints.{last_ct, in_use}
 use Rattle.model.specs.State.{Context, State, same_context, context_of, state_of, start}
@@ -54,6 +54,21 @@ higher_of x y = pick (lower_context y x) x y
 -- the span with one context more
 abbrev pub wider : Span → Context → Span
 wider s x = record { lowest = lower_of x s.lowest; highest = higher_of x s.highest }
+
+-- ---- both
+
+-- what is known of the rows before a row: the notes, and the span of their contexts
+pub record Recent : Type 0 where
+  pub notes : List ℕ
+  pub span : Span
+
+-- what is known where no row is in use
+abbrev pub nothing_noted : Recent
+nothing_noted = record { notes = replicate slots 0; span = no_span }
+
+-- what is known with one row more, which has the context
+abbrev pub noted : Recent → Context → (row : ℕ) → Recent
+noted p x row = record { notes = set p.notes (slot_of x) row; span = wider p.span x }
 
 -- ---- what they say of the rows
 

@@ -3,66 +3,56 @@
 // repository call these functions.
 #![tactic(auto)]
 
-ghost use Rattle.std.specs.Prelude.{◌≡◌, ◌+◌, ◌*◌, ◌≤◌, ◌<◌, length, set};
-ghost use Rattle.model.specs.Columns.{row_bytes, row_at};
+ghost use Rattle.std.specs.Prelude.{◌≡◌, ◌≢◌, ◌<◌, length, slice_index, MatchOption};
+ghost use Rattle.model.specs.Columns.{row_at};
 ghost use Rattle.model.specs.Verdict.{max_rows};
 ghost use Rattle.state.specs.Plain.{context, state};
-ghost use Rattle.recent.specs.Notes.{slot_of, plain_span, no_span, outside, lower_of, higher_of, wider, noted_in, recalled};
+ghost use Rattle.recent.specs.Notes.{Recent, nothing_noted, noted, slot_of, plain_span, no_span, outside, wider, noted_in, recalled};
 
-use cell::read::u32_at;
-use model::ROW_BYTES;
-use row::place;
-use state::look::{has_context, state_at, state_before};
-use state::{Context, State, is_lower, start_state};
+use row::view::RowBytes;
+use state::look::state_before;
+use state::{Context, State};
+use std::marker::Model;
 
-// How many entries the table has. Before the first row each of them is 0, which stands for none: row 0 is always empty.
+// How many entries the table has. Before the first row each of them is 0, which stands for none: row 0 is always empty, and so an entry takes two bytes.
 pub const SLOTS: usize = 1024;
 
 // The contexts from a lowest to a highest.
 #[derive(Clone, Copy)]
-pub struct Span {
+struct Span {
     lowest: Context,
     highest: Context,
 }
 
-// The span of no context: each is outside.
-pub fn no_span() -> Span
-    ensures { plain_span result ≡ no_span }
-{
-    Span {
-        lowest: Context { cn: u32::MAX },
-        highest: Context { cn: 0 },
+impl Span {
+    // The span of no context: each is outside.
+    fn none() -> Self
+        ensures { plain_span result ≡ no_span }
+    {
+        Span {
+            lowest: Context { cn: u32::MAX },
+            highest: Context { cn: 0 },
+        }
     }
-}
 
-// The lower of two contexts.
-fn lower_of(a: Context, b: Context) -> Context
-    ensures { context result ≡ lower_of (context a) (context b) }
-{
-    if is_lower(a, b) { a } else { b }
-}
+    // The span with one context more.
+    #[tactic(auto, unfolding(state::specs::Order::lower_context))]
+    fn widened(self, x: Context) -> Self
+        ensures { plain_span result ≡ wider (plain_span self) (context x) }
+    {
+        Span {
+            lowest: x.min(self.lowest),
+            highest: x.max(self.highest),
+        }
+    }
 
-// The higher of two contexts.
-fn higher_of(a: Context, b: Context) -> Context
-    ensures { context result ≡ higher_of (context a) (context b) }
-{
-    if is_lower(b, a) { a } else { b }
-}
-
-// The span with one context more.
-pub fn widened(span: Span, x: Context) -> Span
-    ensures { plain_span result ≡ wider (plain_span span) (context x) }
-{
-    let lowest = lower_of(x, span.lowest);
-    let highest = higher_of(x, span.highest);
-    Span { lowest, highest }
-}
-
-// Whether the context is outside of the span.
-fn is_outside(span: Span, x: Context) -> bool
-    ensures { result ≡ outside (plain_span span) (context x) }
-{
-    is_lower(x, span.lowest) | is_lower(span.highest, x)
+    // Whether the context is outside of the span.
+    #[tactic(auto, unfolding(crate::specs::Notes::outside, state::specs::Order::lower_context))]
+    fn is_outside(self, x: Context) -> bool
+        ensures { result ≡ outside (plain_span self) (context x) }
+    {
+        (x < self.lowest) | (self.highest < x)
+    }
 }
 
 // The entry of a context.
@@ -72,41 +62,67 @@ fn slot_of(x: Context) -> usize
     x.cn as usize % SLOTS
 }
 
-// Notes this row as the latest of its entry, x being its context.
-pub fn note(notes: &mut [u16; SLOTS], x: Context, row: usize)
-    requires { row < max_rows }
-    ensures { notes.new ≡ set notes.old (slot_of (context x)) row }
-{
-    let slot = slot_of(x);
-    notes[slot] = row as u16;
+// What is known of the rows before a row: the notes, and the span of their contexts.
+#[derive(Drop)]
+pub struct Recent {
+    notes: [u16; SLOTS],
+    span: Span,
 }
 
-// STAMP of row i.
-fn stamp_at(t: &[u8], i: usize) -> u32
-    requires { (i + 1) * row_bytes ≤ length t.now }
-    ensures { result ≡ (row_at t.now i).stamp }
-{
-    u32_at(t, i * ROW_BYTES + place::STAMP)
+impl Model for Recent {
+    ghost Value = { Recent };
+
+    ghost view = { λ a. record { notes = a.notes; span = plain_span a.span } };
 }
 
-// The state of the context by what is known of the rows before a row. Where the noted row is of another context it is looked up from there on back: that row
-// is the latest of all contexts with the entry.
-pub fn recall(t: &[u8], notes: &[u16; SLOTS], span: Span, x: Context) -> State
-    requires { noted_in (length t.now) notes.now }
-    ensures { state result ≡ recalled (row_at t.now) notes.now (plain_span span) (context x) }
-{
-    if is_outside(span, x) {
-        return start_state();
+impl Recent {
+    // Nothing is known: no row is in use.
+    pub fn new() -> Self
+        ensures { result ≡ nothing_noted }
+    {
+        Recent {
+            notes: [0; SLOTS],
+            span: Span::none(),
+        }
     }
-    let slot = slot_of(x);
-    let last = notes[slot] as usize;
-    if last == 0 {
-        return start_state();
+
+    // Notes this row as the latest of its entry, and x, its context, as one of the span.
+    pub fn note(&mut self, x: Context, row: usize)
+        requires { row < max_rows }
+        ensures { self.new ≡ noted self.old (context x) row }
+    {
+        self.notes[slot_of(x)] = row as u16;
+        self.span = self.span.widened(x);
     }
-    if has_context(t, last, x) {
-        return state_at(t, last);
+
+    // The row that is noted for the entry of the context, if any.
+    fn latest(&self, x: Context) -> Option<usize>
+        ensures { MatchOption result (slice_index self.now.notes (slot_of (context x)) ≡ 0)
+            (λ row. (row ≢ 0) × (row ≡ slice_index self.now.notes (slot_of (context x)))) }
+    {
+        match self.notes[slot_of(x)] {
+            0 => None,
+            row => Some(usize::from(row)),
+        }
     }
-    let cycles = stamp_at(t, last) as usize;
-    let looked = state_before(t, last + 1, cycles, x);
-    looked.state
+
+    // The state of the context by what is known of the rows before a row. Where the noted row is of another context it is looked up from there on back: that
+    // row is the latest of all contexts with the entry.
+    pub fn recall(&self, t: &[u8], x: Context) -> State
+        requires { noted_in (length t.now) self.now.notes }
+        ensures { state result ≡ recalled (row_at t.now) self.now.notes self.now.span (context x) }
+    {
+        if self.span.is_outside(x) {
+            return State::default();
+        }
+        let Some(last) = self.latest(x) else {
+            return State::default();
+        };
+        let noted = RowBytes::of_row(t, last);
+        if x.is_of(&noted) {
+            return State::of_row(&noted);
+        }
+        let cycles = noted.stamp() as usize;
+        state_before(t, last + 1, cycles, x).state
+    }
 }

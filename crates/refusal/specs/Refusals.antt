@@ -1,7 +1,10 @@
 -- A refusal by its number. 9 and 10, of a trace that is none, are the model's: its verdict gives them.
-use Rattle.std.specs.Prelude.{ℕ}
+use Rattle.std.specs.Prelude.{ℕ, eqb}
+use Rattle.number.specs.Tests.{pick}
 pub use Rattle.model.specs.Verdict.{bad_length, too_many_rows}
 use Rattle.refusal.specs.declared.Refusal.{Refusal}
+use Rattle.refusal.specs.declared.Refusal.TheVariants.{ListTooLong, NoEmptyRow, NotOfForm, CnZero, NotListed, UnusedField, FillTooLong, BufferShort}
+use Rattle.refusal.specs.declared.Refusal.TheVariants.{BadLength, TooManyRows, NotAccepted, NoInstruction, ContextZero, LimitTooLow}
 
 -- the refusals of a list before it is read: it is too long, or the empty rows are 0
 abbrev pub list_too_long : ℕ
@@ -43,13 +46,58 @@ context_zero = 13
 abbrev pub limit_too_low : ℕ
 limit_too_low = 14
 
--- 3 to 6 give the line from 1; others give line 0.
-abbrev pub in_line : (number line : ℕ) → Refusal
-in_line n line = record { number = n; line = line }
+-- the number of a refusal
+abbrev pub number : Refusal → ℕ
+number ListTooLong = list_too_long
+number NoEmptyRow = no_empty_row
+number (NotOfForm l) = not_of_form
+number (CnZero l) = cn_zero
+number (NotListed l) = not_listed
+number (UnusedField l) = unused_field
+number FillTooLong = fill_too_long
+number BufferShort = buffer_short
+number BadLength = bad_length
+number TooManyRows = too_many_rows
+number NotAccepted = not_accepted
+number NoInstruction = no_instruction
+number ContextZero = context_zero
+number LimitTooLow = limit_too_low
 
+-- 3 to 6 give the line from 1; others give line 0.
+abbrev pub line : Refusal → ℕ
+line ListTooLong = 0
+line NoEmptyRow = 0
+line (NotOfForm l) = l
+line (CnZero l) = l
+line (NotListed l) = l
+line (UnusedField l) = l
+line FillTooLong = 0
+line BufferShort = 0
+line BadLength = 0
+line TooManyRows = 0
+line NotAccepted = 0
+line NoInstruction = 0
+line ContextZero = 0
+line LimitTooLow = 0
+
+-- the refusal with a number, in this line where it is one of a line
+abbrev pub in_line : (number line : ℕ) → Refusal
+in_line n l =
+    pick (eqb n list_too_long) ListTooLong
+    (pick (eqb n no_empty_row) NoEmptyRow
+    (pick (eqb n not_of_form) (NotOfForm l)
+    (pick (eqb n cn_zero) (CnZero l)
+    (pick (eqb n not_listed) (NotListed l)
+    (pick (eqb n unused_field) (UnusedField l)
+    (pick (eqb n fill_too_long) FillTooLong
+    (pick (eqb n buffer_short) BufferShort
+    (pick (eqb n bad_length) BadLength
+    (pick (eqb n too_many_rows) TooManyRows
+    (pick (eqb n not_accepted) NotAccepted
+    (pick (eqb n no_instruction) NoInstruction
+    (pick (eqb n context_zero) ContextZero
+    LimitTooLow))))))))))))
+
+-- the refusal with a number, of no line
 abbrev pub lineless : ℕ → Refusal
 lineless n = in_line n 0
-
--- what stands for a refusal where there is none
-abbrev pub no_refusal : Refusal
-no_refusal = lineless 0

@@ -1,12 +1,12 @@
 -- A row that is written and a row that is read: reading gives what was written, writing what was read changes nothing, and the other rows stay.
-use Prim.Native.Nat.{ℕ, zero, suc, ◌+◌, ◌*◌, ◌/◌, ◌<◌, ◌≤◌}
+use Prim.Native.Nat.{ℕ, zero, suc, ◌+◌, ◌-◌, ◌*◌, ◌/◌, ◌<◌, ◌≤◌}
 use mathlib.Core.List.{List, [], ◌∷◌, ◌++◌, append_assoc, append-nil}
 use mathlib.Core.Logic.{◌≢◌}
 use mathlib.Core.Path.{◌≡◌, refl, ◌∙◌, ap}
-use native.Mathlib.Nat.{add-zero}
+use native.Mathlib.Nat.{add_assoc, add-zero, zero-add}
 use native.Mathlib.Omega.{arith}
 use lib.ListN.{length, get_or, set, take, drop, length-drop, take-append-drop}
-use lib.Seq.{sets, sets-eq, length-sets, length-take-le, get_or-set_other, drop-drop}
+use lib.Seq.{get_or-take, get_or-drop, sets, sets-eq, length-sets, length-take-le, get_or-set_other, drop-drop}
 use Rattle.number.specs.Cells.{total, encode, decode, Fit}
 use Rattle.number.specs.Num.{num, AllBytes}
 use Rattle.number.proofs.CellLaws.{length-encode, encode-decode}
@@ -80,23 +80,38 @@ bytes_stay l i k x n =
     let e : length (encode widths (cells_in columns x)) ≡ row_bytes = length-encode widths (cells_in columns x) in
     get_or_sets_apart l (i * row_bytes) k (encode widths (cells_in columns x)) (λ j m q. n (omega arith))
 
--- the bytes from p to q are the same in both lists
-abbrev Agree : (l m : List ℕ) (p q : ℕ) → Type 0
-Agree l m p q = (k : ℕ) → p ≤ k → k < q → get_or l k 0 ≡ get_or m k 0
+-- the w bytes of l from p on are those of m from q on
+abbrev pub Agree : (l : List ℕ) (p : ℕ) (m : List ℕ) (q w : ℕ) → Type 0
+Agree l p m q w = (k : ℕ) → k < w → get_or l (p + k) 0 ≡ get_or m (q + k) 0
 
-num_agree : (l m : List ℕ) (p w : ℕ) → Agree l m p (p + w) → num l p w ≡ num m p w
+pub num_agree : (l m : List ℕ) (p q w : ℕ) → Agree l p m q w → num l p w ≡ num m q w
 unfolding num
-num_agree l m p zero a = refl
-num_agree l m p (suc w) a = rw (num_agree l m p w (λ k g h. a k g (omega arith)), a (p + w) (omega arith) (omega arith))
+num_agree l m p q zero a = refl
+num_agree l m p q (suc w) a = rw (num_agree l m p q w (λ k h. a k (omega arith)), a w (omega arith))
 
-decode_agree : (ws l m : List ℕ) (p : ℕ) → Agree l m p (p + total ws) → decode ws l p ≡ decode ws m p
+decode_agree : (ws l m : List ℕ) (p q : ℕ) → Agree l p m q (total ws) → decode ws l p ≡ decode ws m q
 unfolding decode
-decode_agree [] l m p a = refl
-decode_agree (w ∷ ws) l m p a =
-    rw (num_agree l m p w (λ k g h. a k g (omega arith)), decode_agree ws l m (p + w) (λ k g h. a k (omega arith) (omega arith)))
+decode_agree [] l m p q a = refl
+decode_agree (w ∷ ws) l m p q a =
+    let behind : Agree l (p + w) m (q + w) (total ws) = λ k h. rw (add_assoc, add_assoc) (a (w + k) (omega arith)) in
+    rw (num_agree l m p q w (λ k h. a k (omega arith)), decode_agree ws l m (p + w) (q + w) behind)
+
+-- rows of the same bytes are the same
+pub row_agree : (l m : List ℕ) (i j : ℕ) → Agree l (i * row_bytes) m (j * row_bytes) row_bytes → row_at l i ≡ row_at m j
+unfolding row_at
+row_agree l m i j a = ap of_list (decode_agree widths l m (i * row_bytes) (j * row_bytes) a)
 
 -- every row but the one that was written is read as before
 pub others_stay : (l : List ℕ) (i j : ℕ) (x : Cells) → j ≢ i → row_at (written l i x) j ≡ row_at l j
-unfolding row_at
 others_stay l i j x n =
-    ap of_list (decode_agree widths (written l i x) l (j * row_bytes) (λ k g h. bytes_stay l i k x (λ e. n (omega arith))))
+    row_agree (written l i x) l j j (λ k h. bytes_stay l i (j * row_bytes + k) x (λ e. n (omega arith)))
+
+-- the bytes of row i, cut out of the others, are that row
+pub row_cut : (l : List ℕ) (i q : ℕ) → q ≡ i * row_bytes + row_bytes
+    → row_at (take (q - i * row_bytes) (drop (i * row_bytes) l)) 0 ≡ row_at l i
+row_cut l i q e =
+    let part = take (q - i * row_bytes) (drop (i * row_bytes) l) in
+    row_agree part l 0 i
+    (λ k h.
+    ap (λ (j : ℕ). get_or part j 0) (zero-add k) ∙ get_or-take (q - i * row_bytes) (drop (i * row_bytes) l) k 0 (omega arith)
+    ∙ get_or-drop (i * row_bytes) l k 0)

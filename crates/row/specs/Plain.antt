@@ -1,8 +1,7 @@
 -- The code's row as the thirty whole numbers that the model speaks of.
-use Rattle.std.specs.Prelude.{ℕ, ◌+◌, List, [], ◌∷◌, ◌≡◌}
-use Rattle.number.specs.Num.{num}
+use Rattle.std.specs.Prelude.{◌≡◌}
 use Rattle.number.specs.Whole.{val}
-use Rattle.model.specs.Columns.{Cells, widths, of_list}
+use Rattle.model.specs.Columns.{Cells}
 use Rattle.row.specs.declared.cells.Body.{Body}
 use Rattle.row.specs.declared.cells.Head.{Head}
 use Rattle.row.specs.declared.cells.Row.{Row}
@@ -43,15 +42,6 @@ plain x = record {
   aux2 = x.tail.aux2;
 }
 
--- the values of cells with these widths, the first of which stands o bytes after p
-abbrev pub cells_from : List ℕ → List ℕ → (p o : ℕ) → List ℕ
-cells_from [] l p o = []
-cells_from (w ∷ ws) l p o = num l (p + o) w ∷ cells_from ws l p (o + w)
-
--- the row whose first byte is at p
-abbrev pub from : List ℕ → ℕ → Cells
-from l p = of_list (cells_from widths l p 0)
-
 -- x is that part of the row y
 pub record HeadOf (y : Cells) (x : Head) : Type 0 where
   pub stamp : x.stamp ≡ y.stamp
@@ -90,13 +80,3 @@ pub record TailOf (y : Cells) (x : Tail) : Type 0 where
   pub q2acc : x.q2acc ≡ y.q2acc
   pub aux1 : x.aux1 ≡ y.aux1
   pub aux2 : x.aux2 ≡ y.aux2
-
--- x is that part of the row whose first byte is at p
-abbrev pub HeadAt : List ℕ → ℕ → Head → Type 0
-HeadAt l p x = HeadOf (from l p) x
-
-abbrev pub BodyAt : List ℕ → ℕ → Body → Type 0
-BodyAt l p x = BodyOf (from l p) x
-
-abbrev pub TailAt : List ℕ → ℕ → Tail → Type 0
-TailAt l p x = TailOf (from l p) x

@@ -1,12 +1,8 @@
-// A row by value, in three parts of ten cells.
-ghost use Rattle.std.specs.Prelude.{◌≡◌};
-ghost use Rattle.model.specs.Columns.{empty_row};
-ghost use Rattle.row.specs.Plain.{plain};
-
-use number::wide::{Wide, small};
+// A row by value, in three parts of ten cells. The default has every cell 0: what stands before the first row of a trace.
+use number::wide::Wide;
 
 // From STAMP to ACC2.
-#[derive(Clone, Copy)]
+#[derive(Clone, Copy, Default, PartialEq, Eq)]
 pub struct Head {
     pub stamp: u32,
     pub cn: u32,
@@ -21,7 +17,7 @@ pub struct Head {
 }
 
 // From MEM to FLAG.
-#[derive(Clone, Copy)]
+#[derive(Clone, Copy, Default, PartialEq, Eq)]
 pub struct Body {
     pub mem: u32,
     pub memn: u32,
@@ -36,7 +32,7 @@ pub struct Body {
 }
 
 // From EBYTE to AUX2.
-#[derive(Clone, Copy)]
+#[derive(Clone, Copy, Default, PartialEq, Eq)]
 pub struct Tail {
     pub ebyte: u8,
     pub eacc: u32,
@@ -51,59 +47,9 @@ pub struct Tail {
 }
 
 // The thirty cells.
-#[derive(Clone, Copy)]
+#[derive(Clone, Copy, Default, PartialEq, Eq)]
 pub struct Row {
     pub head: Head,
     pub body: Body,
     pub tail: Tail,
-}
-
-// MEM to FLAG, and EBYTE to AUX2, with every cell 0.
-const EMPTY_BODY: Body = Body {
-    mem: 0,
-    memn: 0,
-    cost: 0,
-    costn: 0,
-    gas: 0,
-    comp: 0,
-    dbyte: 0,
-    dacc: 0,
-    endmax: 0,
-    flag: 0,
-};
-
-const EMPTY_TAIL: Tail = Tail {
-    ebyte: 0,
-    eacc: 0,
-    q1: 0,
-    q1byte: 0,
-    q1acc: 0,
-    q2: 0,
-    q2byte: 0,
-    q2acc: 0,
-    aux1: 0,
-    aux2: 0,
-};
-
-// The row whose every cell is 0: what stands before the first row of a trace.
-pub fn empty_row() -> Row
-    ensures { plain result ≡ empty_row }
-{
-    let none = small(0);
-    Row {
-        head: Head {
-            stamp: 0,
-            cn: 0,
-            ooob: 0,
-            ct: 0,
-            end1: none,
-            end2: none,
-            byte1: 0,
-            byte2: 0,
-            acc1: none,
-            acc2: 0,
-        },
-        body: EMPTY_BODY,
-        tail: EMPTY_TAIL,
-    }
 }

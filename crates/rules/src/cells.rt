@@ -1,114 +1,112 @@
 // What rules ask of many cells of a row.
-ghost use Rattle.std.specs.Prelude.{◌≡◌, drop};
+ghost use Rattle.std.specs.Prelude.{◌≡◌};
 ghost use Rattle.model.specs.Columns as columns;
 ghost use Rattle.model.specs.Constraints as constraints;
 ghost use Rattle.model.specs.Tests.{zeros};
 ghost use Rattle.row.specs.Plain.{plain};
+ghost use Rattle.rules.specs.Kept.{numbers};
 
-use number::wide::same;
-use row::cells::Row;
-use words::amounts::stays;
-use words::is_zero;
+use gas::WORD_GAS;
+use number::wide::Wide;
+use row::cells::{Body, Row, Tail};
 
 // MEMN=MEM, COSTN=COST, GAS=0.
-pub(crate) fn row_stays(x: Row) -> bool
+#[tactic(auto, unfolding(model::specs::Constraints::stays))]
+pub(crate) fn stays(x: Row) -> bool
     ensures { result ≡ constraints.stays (plain x) }
 {
-    stays(
-        x.body.mem,
-        x.body.memn,
-        x.body.cost,
-        x.body.costn,
-        x.body.gas,
-    )
+    (x.body.memn == x.body.mem) & (x.body.costn == x.body.cost) & (x.body.gas == 0)
 }
 
-// The Q and AUX cells are 0.
+// MEMN=ENDMAX, COSTN=3(1+Q1)+Q2, COSTN=COST+GAS.
+#[tactic(auto, unfolding(model::specs::Constraints::grows))]
+pub(crate) fn grows(x: Row) -> bool
+    ensures { result ≡ constraints.grows (plain x) }
+{
+    let costn = u64::from(x.body.costn);
+    (x.body.memn == x.body.endmax)
+        & (costn == WORD_GAS * (1 + u64::from(x.tail.q1)) + u64::from(x.tail.q2))
+        & (costn == u64::from(x.body.cost) + u64::from(x.body.gas))
+}
+
+// The Q and AUX cells are 0: those after EBYTE and EACC.
 pub(crate) fn quotients_zero(x: Row) -> bool
     ensures { result ≡ zeros (constraints.quotients (plain x)) }
 {
-    (x.tail.q1 == 0)
-        & (x.tail.q1byte == 0)
-        & (x.tail.q1acc == 0)
-        & (x.tail.q2 == 0)
-        & (x.tail.q2byte == 0)
-        & (x.tail.q2acc == 0)
-        & (x.tail.aux1 == 0)
-        & (x.tail.aux2 == 0)
+    let rest = Tail {
+        ebyte: 0,
+        eacc: 0,
+        ..x.tail
+    };
+    rest == Tail::default()
 }
 
-// Every cell from COMP on is 0.
+// Every cell from COMP on is 0: those after GAS.
 pub(crate) fn from_comp_zero(x: Row) -> bool
     ensures { result ≡ zeros (columns.cells_in columns.from_comp (plain x)) }
 {
-    (x.body.comp == 0)
-        & (x.body.dbyte == 0)
-        & (x.body.dacc == 0)
-        & (x.body.endmax == 0)
-        & (x.body.flag == 0)
-        & (x.tail.ebyte == 0)
-        & (x.tail.eacc == 0)
-        & quotients_zero(x)
-}
-
-// Every cell from MEM, the eleventh, on is 0.
-fn from_mem_zero(x: Row) -> bool
-    ensures { result ≡ zeros (drop 10 (columns.cells_in columns.columns (plain x))) }
-{
-    (x.body.mem == 0)
-        & (x.body.memn == 0)
-        & (x.body.cost == 0)
-        & (x.body.costn == 0)
-        & (x.body.gas == 0)
-        & from_comp_zero(x)
+    let rest = Body {
+        mem: 0,
+        memn: 0,
+        cost: 0,
+        costn: 0,
+        gas: 0,
+        ..x.body
+    };
+    (rest == Body::default()) & (x.tail == Tail::default())
 }
 
 // Every cell is 0.
 pub(crate) fn all_zero(x: Row) -> bool
     ensures { result ≡ zeros (columns.cells_in columns.columns (plain x)) }
 {
-    (x.head.stamp == 0)
-        & (x.head.cn == 0)
-        & (x.head.ooob == 0)
-        & (x.head.ct == 0)
-        & is_zero(x.head.end1)
-        & is_zero(x.head.end2)
-        & (x.head.byte1 == 0)
-        & (x.head.byte2 == 0)
-        & is_zero(x.head.acc1)
-        & (x.head.acc2 == 0)
-        & from_mem_zero(x)
+    x == Row::default()
 }
 
-// Of what stays as it is in a cycle, the last five: COMP, ENDMAX, FLAG, Q1, Q2.
-fn comp_kept(b: Row, x: Row) -> bool
-    ensures { result ≡ constraints.equal (drop 8 (constraints.kept (plain x))) (drop 8 (constraints.kept (plain b))) }
-{
-    (x.body.comp == b.body.comp)
-        & (x.body.endmax == b.body.endmax)
-        & (x.body.flag == b.body.flag)
-        & (x.tail.q1 == b.tail.q1)
-        & (x.tail.q2 == b.tail.q2)
+// The cells that stay as they are in a cycle.
+#[derive(Clone, Copy, PartialEq, Eq)]
+struct Kept {
+    cn: u32,
+    end1: Wide,
+    end2: Wide,
+    mem: u32,
+    memn: u32,
+    cost: u32,
+    costn: u32,
+    gas: u32,
+    comp: u8,
+    endmax: u32,
+    flag: u8,
+    q1: u32,
+    q2: u32,
 }
 
-// All but the first three: MEM, MEMN, COST, COSTN, GAS and the last five.
-fn mem_kept(b: Row, x: Row) -> bool
-    ensures { result ≡ constraints.equal (drop 3 (constraints.kept (plain x))) (drop 3 (constraints.kept (plain b))) }
-{
-    (x.body.mem == b.body.mem)
-        & (x.body.memn == b.body.memn)
-        & (x.body.cost == b.body.cost)
-        & (x.body.costn == b.body.costn)
-        & (x.body.gas == b.body.gas)
-        & comp_kept(b, x)
+// Those of a row.
+impl From<Row> for Kept {
+    ghost from_gives = { λ x k. numbers k ≡ constraints.kept (plain x) };
+
+    fn from(x: Row) -> Kept {
+        Kept {
+            cn: x.head.cn,
+            end1: x.head.end1,
+            end2: x.head.end2,
+            mem: x.body.mem,
+            memn: x.body.memn,
+            cost: x.body.cost,
+            costn: x.body.costn,
+            gas: x.body.gas,
+            comp: x.body.comp,
+            endmax: x.body.endmax,
+            flag: x.body.flag,
+            q1: x.tail.q1,
+            q2: x.tail.q2,
+        }
+    }
 }
 
-// All of it: CN, END1, END2 and the others.
+// Each of them is as in the row before.
 pub(crate) fn all_kept(b: Row, x: Row) -> bool
     ensures { result ≡ constraints.equal (constraints.kept (plain x)) (constraints.kept (plain b)) }
 {
-    (x.head.cn == b.head.cn)
-        & same(x.head.end1, b.head.end1)
-        & same(x.head.end2, b.head.end2)
-        & mem_kept(b, x)
+    Kept::from(x) == Kept::from(b)
 }

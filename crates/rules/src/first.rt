@@ -1,98 +1,93 @@
-// The first constraint that a row breaks. The search goes from the last constraint to the first, in the groups of document 01: each function
-// takes what was found after its own constraints, and hands that on where they do not apply.
-ghost use Rattle.std.specs.Prelude.{◌≡◌};
-ghost use Rattle.model.specs.Constraints.{constraints_by, first_failed, first_or};
+// The first constraint that a row breaks: the 26 in their order, and where the first stands that is not met.
+ghost use Rattle.std.specs.Prelude.{◌≡◌, ◌<◌, not, IfSome, length, position};
+ghost use Rattle.model.specs.Constraints as constraints;
+ghost use Rattle.model.specs.Constraints.{first_failed};
 ghost use Rattle.row.specs.Plain.{plain};
-ghost use Rattle.rules.specs.First.{last_row_tests, within_tests, beyond_tests, used_tests};
+ghost use Rattle.rules.specs.First.{constraints_of, named};
 
 use crate::beyond::rule24;
 use crate::cycle::{rule7, rule8, rule10};
 use crate::steps::{rule1, rule2, rule3, rule4, rule5, rule6, rule26};
+use crate::window::Window;
 use crate::within::{
     rule11, rule12, rule13, rule14, rule15, rule16, rule17, rule18, rule19, rule20, rule21, rule22,
     rule23,
 };
-use model::IN_LAST;
 use row::cells::Row;
-use words::pick;
+use words::implies;
 
-// 18 to 22, on the last row of a cycle.
-fn first_on_last_row(a: Row, b: Row, x: Row, rest: u64) -> u64
-    ensures { result ≡ first_or 18 (last_row_tests (plain a) (plain b) (plain x)) rest }
+// How many constraints there are.
+const CONSTRAINTS: usize = 26;
+
+// 7 to 25 are asked where STAMP is not 0.
+#[tactic(auto, unfolding(model::specs::Constraints::in_use))]
+fn used(x: Row, met: bool) -> bool
+    ensures { result ≡ constraints.used (plain x) met }
 {
-    if x.head.ct != IN_LAST {
-        return rest;
-    }
-    let v22 = pick(rule22(a, b, x), rest, 22);
-    let v21 = pick(rule21(b, x), v22, 21);
-    let v20 = pick(rule20(x), v21, 20);
-    let v19 = pick(rule19(x), v20, 19);
-    pick(rule18(x), v19, 18)
+    implies(x.head.stamp != 0, met)
 }
 
-// 11 to 23, where OOOB=0.
-fn first_within(a: Row, b: Row, x: Row, rest: u64) -> u64
-    ensures { result ≡ first_or 11 (within_tests (plain a) (plain b) (plain x)) rest }
+// 11 to 23 where OOOB=0. (Two functions, as document 01 has two groups.)
+fn within(x: Row, met: bool) -> bool
+    ensures { result ≡ constraints.within (plain x) met }
 {
-    if x.head.ooob != 0 {
-        return rest;
-    }
-    let v23 = pick(rule23(x), rest, 23);
-    let v18 = first_on_last_row(a, b, x, v23);
-    let v17 = pick(rule17(x), v18, 17);
-    let v16 = pick(rule16(x), v17, 16);
-    let v15 = pick(rule15(x), v16, 15);
-    let v14 = pick(rule14(b, x), v15, 14);
-    let v13 = pick(rule13(b, x), v14, 13);
-    let v12 = pick(rule12(b, x), v13, 12);
-    pick(rule11(b, x), v12, 11)
+    used(x, implies(x.head.ooob == 0, met))
 }
 
-// 24 and 25, where OOOB=1.
-fn first_beyond(x: Row, twenty_five: bool, rest: u64) -> u64
-    ensures { result ≡ first_or 24 (beyond_tests (plain x) twenty_five) rest }
+// 24 and 25 where OOOB=1.
+fn beyond(x: Row, met: bool) -> bool
+    ensures { result ≡ constraints.beyond (plain x) met }
 {
-    if x.head.ooob != 1 {
-        return rest;
-    }
-    let v25 = pick(twenty_five, rest, 25);
-    pick(rule24(x), v25, 24)
+    used(x, implies(x.head.ooob == 1, met))
 }
 
-// 7 to 25, where STAMP is not 0.
-fn first_used(a: Row, b: Row, x: Row, nine: bool, twenty_five: bool, rest: u64) -> u64
-    ensures { result ≡ first_or 7 (used_tests (plain a) (plain b) (plain x) nine twenty_five) rest }
+// Whether each of the 26 is met, in their order. The answers to 9 and to 25 are given.
+fn constraints_met(w: Window, nine: bool, twenty_five: bool) -> [bool; CONSTRAINTS]
+    ensures { result ≡ constraints_of w nine twenty_five }
 {
-    if x.head.stamp == 0 {
-        return rest;
-    }
-    let v24 = first_beyond(x, twenty_five, rest);
-    let v11 = first_within(a, b, x, v24);
-    let v10 = pick(rule10(b, x), v11, 10);
-    let v9 = pick(nine, v10, 9);
-    let v8 = pick(rule8(b, x), v9, 8);
-    pick(rule7(x), v8, 7)
+    let (b, x) = (w.before, w.row);
+    [
+        rule1(x),
+        rule2(w.first, x),
+        rule3(w.first, b, x),
+        rule4(b, x),
+        rule5(b, x),
+        rule6(x),
+        used(x, rule7(x)),
+        used(x, rule8(b, x)),
+        used(x, nine),
+        used(x, rule10(b, x)),
+        within(x, rule11(b, x)),
+        within(x, rule12(b, x)),
+        within(x, rule13(b, x)),
+        within(x, rule14(b, x)),
+        within(x, rule15(x)),
+        within(x, rule16(x)),
+        within(x, rule17(x)),
+        within(x, rule18(x)),
+        within(x, rule19(x)),
+        within(x, rule20(x)),
+        within(x, rule21(b, x)),
+        within(x, rule22(w.two_before, b, x)),
+        within(x, rule23(x)),
+        beyond(x, rule24(x)),
+        beyond(x, twenty_five),
+        rule26(w.last, x),
+    ]
 }
 
-// The number of the first constraint that row x breaks, 0 if it meets all: b is the row before it and a the one two before it; first and last
-// say whether it is row 0 and whether it is the last. The answers to 9 and to 25 are given.
-pub fn first_broken(
-    a: Row,
-    b: Row,
-    x: Row,
-    first: bool,
-    last: bool,
-    nine: bool,
-    twenty_five: bool,
-) -> u64
-    ensures { result ≡ first_failed 1 (constraints_by (plain a) (plain b) (plain x) first last nine twenty_five) }
+// The place of the first test that does not pass.
+fn first_unmet(met: &[bool]) -> Option<usize>
+    ensures place { result ≡ position not met.now }
+    ensures bound { IfSome result (λ i. i < length met.now) }
 {
-    let v26 = pick(rule26(last, x), 0, 26);
-    let v7 = first_used(a, b, x, nine, twenty_five, v26);
-    let v6 = pick(rule6(x), v7, 6);
-    let v5 = pick(rule5(b, x), v6, 5);
-    let v4 = pick(rule4(b, x), v5, 4);
-    let v3 = pick(rule3(first, b, x), v4, 3);
-    let v2 = pick(rule2(first, x), v3, 2);
-    pick(rule1(x), v2, 1)
+    met.iter().position(|passes| !*passes)
+}
+
+// The number of the first constraint that the row breaks, none if it meets all. The answers to 9 and to 25 are given.
+pub fn first_broken(w: Window, nine: bool, twenty_five: bool) -> Option<u64>
+    ensures { result ≡ named (first_failed 1 (constraints_of w nine twenty_five)) }
+{
+    let place = first_unmet(&constraints_met(w, nine, twenty_five))?;
+    Some(place as u64 + 1)
 }

@@ -9,6 +9,7 @@ use words::steps::{ct_follows, stamp_follows};
 use words::{implies, last_ct};
 
 // 1. OOOB is 0 or 1.
+#[tactic(auto, unfolding(model::specs::Constraints::k1))]
 pub fn rule1(x: Row) -> bool
     ensures { result ≡ k1 (plain x) }
 {
@@ -16,6 +17,7 @@ pub fn rule1(x: Row) -> bool
 }
 
 // 2. Row 0 has STAMP 0.
+#[tactic(auto, unfolding(model::specs::Constraints::k2))]
 pub fn rule2(first: bool, x: Row) -> bool
     ensures { result ≡ k2 first (plain x) }
 {
@@ -23,6 +25,7 @@ pub fn rule2(first: bool, x: Row) -> bool
 }
 
 // 3. i>0: after STAMP 0 comes 0 or 1. Otherwise STAMP equals the one before if that row's CT was not its E, else it is one more.
+#[tactic(auto, unfolding(model::specs::Constraints::k3))]
 pub fn rule3(first: bool, b: Row, x: Row) -> bool
     ensures { result ≡ k3 first (plain b) (plain x) }
 {
@@ -33,6 +36,7 @@ pub fn rule3(first: bool, b: Row, x: Row) -> bool
 }
 
 // 4. CT is 0 where STAMP is 0 or new; else one more than before.
+#[tactic(auto, unfolding(model::specs::Constraints::k4))]
 pub fn rule4(b: Row, x: Row) -> bool
     ensures { result ≡ k4 (plain b) (plain x) }
 {
@@ -40,6 +44,7 @@ pub fn rule4(b: Row, x: Row) -> bool
 }
 
 // 5. STAMP 0: OOOB is 0. Inside a cycle OOOB is as before.
+#[tactic(auto, unfolding(model::specs::Constraints::k5))]
 pub fn rule5(b: Row, x: Row) -> bool
     ensures { result ≡ k5 (plain b) (plain x) }
 {
@@ -48,16 +53,15 @@ pub fn rule5(b: Row, x: Row) -> bool
 }
 
 // 6. STAMP 0: every cell is 0.
+#[tactic(auto, unfolding(model::specs::Constraints::k6))]
 pub fn rule6(x: Row) -> bool
     ensures { result ≡ k6 (plain x) }
 {
-    if x.head.stamp != 0 {
-        return true;
-    }
-    all_zero(x)
+    implies(x.head.stamp == 0, all_zero(x))
 }
 
 // 26. The last row, STAMP not 0: CT is E.
+#[tactic(auto, unfolding(model::specs::Constraints::k26, model::specs::Constraints::in_use))]
 pub fn rule26(last: bool, x: Row) -> bool
     ensures { result ≡ k26 last (plain x) }
 {

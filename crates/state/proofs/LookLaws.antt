@@ -8,9 +8,10 @@ use native.Mathlib.Nat.{le_step, lt-suc_self}
 use native.Mathlib.Omega.{arith}
 use borrow.Author.Tests.{eqb-true, ne_eqb}
 use lib.Dec.{eqb-suc-zero}
+use Rattle.std.specs.Prelude.{None}
 use Rattle.model.specs.Columns.{Cells, table}
 use Rattle.model.specs.Constraints.{last_ct, in_use, kept, k2, k3, k4, constraint}
-use Rattle.model.specs.Cycles.{cycle_rows, Claim, Looked, starts, cycles_from, cycles, look, last_state}
+use Rattle.model.specs.Cycles.{cycle_rows, Claim, Looked, starts, cycles_from, look, last_state}
 use Rattle.model.specs.Promises.{AllHold}
 use Rattle.model.specs.State.{Context, same_context, context_of, state_of, start}
 use Rattle.model.specs.Steps.{stamp_moves, ct_moves}
@@ -24,7 +25,6 @@ use Rattle.model.proofs.StepLaws.{stamp_after_empty, stamp_inside, stamp_over, c
 use Rattle.model.proofs.TableOf.{table_snoc}
 use Rattle.model.proofs.TestFacts.{if_unequal_use}
 use Rattle.state.specs.Look.{found_at, one_more, search_back, answered, look_back}
-use Rattle.state.specs.declared.look.Found.TheVariants.{Nothing}
 use Rattle.state.specs.declared.look.Search.{Search}
 use Rattle.state.proofs.SearchLaws.{search_whole}
 
@@ -191,12 +191,10 @@ module _ (r : ℕ → Cells) (n : ℕ) (x : Context) where
 
   -- a search that finds nothing has looked at s cycles
   abbrev NoneInAll : ℕ → Search → Type 0
-  NoneInAll s a = a.found ≡ Nothing → a.count ≡ s
+  NoneInAll s a = a.found ≡ None → a.count ≡ s
 
   none_more : (t : Bool) (i s : ℕ) (rest : Search) → NoneInAll s rest → NoneInAll (suc s) (pick t (found_at i) (one_more rest))
-  none_more true i s rest h e =
-      let z : ◌≡◌ {A = ℕ} 0 1 = cc in
-      absurd (omega arith)
+  none_more true i s rest h e = cc
   none_more false i s rest h e = ap suc (h e)
 
   none_cycle : (i s : ℕ) → (w : Ends i s) → NoneInAll s (search_back r x s w.1.first) → NoneInAll (suc s) (search_back r x (suc s) (suc i))
@@ -204,6 +202,6 @@ module _ (r : ℕ → Cells) (n : ℕ) (x : Context) where
 
   -- with that limit, all cycles before the row were looked at
   pub none_in_all : (i : ℕ) → HoldBefore r n i → Between r i
-      → (search_back r x (row_before r i).stamp i).found ≡ Nothing → (search_back r x (row_before r i).stamp i).count ≡ (row_before r i).stamp
+      → (search_back r x (row_before r i).stamp i).found ≡ None → (search_back r x (row_before r i).stamp i).count ≡ (row_before r i).stamp
   unfolding search_back
   none_in_all = over_cycles (λ s i. NoneInAll s (search_back r x s i)) (λ i h e f. refl) none_cycle

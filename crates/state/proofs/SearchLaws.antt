@@ -7,6 +7,7 @@ use native.Mathlib.Nat.{add-zero, sub-zero, zero-add, le_of_suc-le-suc}
 use native.Mathlib.Omega.{arith}
 use borrow.Author.Tests.{leb-true, le-leb, lt-leb}
 use lib.Dec.{leb, leb-zero, leb-suc-zero, leb-suc-suc}
+use Rattle.std.specs.Prelude.{Option, None, Some}
 use Rattle.model.specs.Cycles.{cycle_rows}
 use Rattle.model.specs.Columns.{Cells, row_bytes}
 use Rattle.model.specs.State.{Context, State, same_context, context_of}
@@ -14,8 +15,6 @@ use Rattle.model.specs.Tests.{pick}
 use Rattle.model.specs.Verdict.{row_before}
 use Rattle.model.proofs.TestFacts.{pick_under}
 use Rattle.state.specs.Look.{found_at, none_in, one_more, search_back, found_in, state_found, look_back}
-use Rattle.state.specs.declared.look.Found.{Found}
-use Rattle.state.specs.declared.look.Found.TheVariants.{At, Nothing}
 use Rattle.state.specs.declared.look.Search.{Search}
 
 -- ---- one cycle
@@ -87,7 +86,7 @@ module _ {r : ℕ → Cells} {x : Context} {row limit to k : ℕ} (g : Going r x
           rw (a, rw (b, ← rows) at (search_whole r x (limit - (k + 1)) (to - 1) (omega arith))) at g.rest
 
       -- a cycle with the context is found
-      pub finds : same_context (context_of (r (to - 1))) x ≡ true → record { found = At (to - 1); count = k + 1 } ≡ search_back r x limit row
+      pub finds : same_context (context_of (r (to - 1))) x ≡ true → record { found = Some (to - 1); count = k + 1 } ≡ search_back r x limit row
       finds e = rw e at turn
 
       -- from one with another context the search goes on
@@ -99,32 +98,28 @@ module _ {r : ℕ → Cells} {x : Context} {row limit to k : ℕ} (g : Going r x
 
 -- ---- what is found
 
-found-by : (t u : Bool) (n to i : ℕ) (rest : Search) → 0 < n → (t ≡ true → n ≤ to) → (rest.found ≡ At i → i < to - n)
-    → (pick t (pick u (found_at (to - 1)) (one_more rest)) (none_in 0)).found ≡ At i → i < to
+found-by : (t u : Bool) (n to i : ℕ) (rest : Search) → 0 < n → (t ≡ true → n ≤ to) → (rest.found ≡ Some i → i < to - n)
+    → (pick t (pick u (found_at (to - 1)) (one_more rest)) (none_in 0)).found ≡ Some i → i < to
 found-by true true n to i rest p h k e =
     let same : to - 1 ≡ i = cc in
     omega (arith, h refl)
 found-by true false n to i rest p h k e = omega (arith, k e)
-found-by false u n to i rest p h k e =
-    let z : ◌≡◌ {A = ℕ} 0 1 = cc in
-    absurd (omega arith)
+found-by false u n to i rest p h k e = cc
 
 -- a found row stands before the row from which the search goes
-pub found_before : (r : ℕ → Cells) (x : Context) (limit to i : ℕ) → (search_back r x limit to).found ≡ At i → i < to
+pub found_before : (r : ℕ → Cells) (x : Context) (limit to i : ℕ) → (search_back r x limit to).found ≡ Some i → i < to
 unfolding search_back
-found_before r x zero to i e =
-    let z : ◌≡◌ {A = ℕ} 0 1 = cc in
-    absurd (omega arith)
+found_before r x zero to i e = cc
 found_before r x (suc limit) to i e =
     let n : ℕ = cycle_rows (row_before r to) in
     found-by (leb n to) (same_context (context_of (row_before r to)) x) n to i (search_back r x limit (to - n)) (omega arith) (leb-true n to)
     (found_before r x limit (to - n) i) e
 
 -- so it stands in the bytes of those rows
-pub found_inside : (r : ℕ → Cells) (x : Context) (limit to bytes : ℕ) (f : Found) → (search_back r x limit to).found ≡ f
+pub found_inside : (r : ℕ → Cells) (x : Context) (limit to bytes : ℕ) (f : Option ℕ) → (search_back r x limit to).found ≡ f
     → to * row_bytes ≤ bytes → found_in bytes f
-found_inside r x limit to bytes (At i) e h = omega (arith, found_before r x limit to i e)
-found_inside r x limit to bytes Nothing e h = tt
+found_inside r x limit to bytes (Some i) e h = omega (arith, found_before r x limit to i e)
+found_inside r x limit to bytes None e h = tt
 
 -- the look-up answers by what the search finds
 pub look_by_found : (r : ℕ → Cells) (x : Context) (limit to : ℕ) {s : Search} {a : State} → s ≡ search_back r x limit to

@@ -1,21 +1,19 @@
 -- The look-up of a context's state before a row: back cycle by cycle over any rows, with a limit on the cycles that are looked at.
-use Rattle.std.specs.Prelude.{ℕ, zero, suc, ◌+◌, ◌-◌, ◌*◌, ◌≤◌, leb}
+use Rattle.std.specs.Prelude.{ℕ, zero, suc, ◌+◌, ◌-◌, ◌*◌, ◌≤◌, leb, Option, None, Some}
 use Rattle.model.specs.Columns.{Cells, row_bytes}
 use Rattle.model.specs.Cycles.{Looked, cycle_rows}
 use Rattle.model.specs.State.{Context, State, same_context, context_of, state_of, start}
 use Rattle.model.specs.Tests.{pick}
 use Rattle.model.specs.Verdict.{row_before}
-use Rattle.state.specs.declared.look.Found.{Found}
-use Rattle.state.specs.declared.look.Found.TheVariants.{At, Nothing}
 use Rattle.state.specs.declared.look.Search.{Search}
 
 -- row i was found, in the first cycle that was looked at
 abbrev pub found_at : ℕ → Search
-found_at i = record { found = At i; count = 1 }
+found_at i = record { found = Some i; count = 1 }
 
 -- k cycles were looked at, and nothing was found
 abbrev pub none_in : ℕ → Search
-none_in k = record { found = Nothing; count = k }
+none_in k = record { found = None; count = k }
 
 -- one cycle more was looked at
 abbrev pub one_more : Search → Search
@@ -32,14 +30,14 @@ search_back r x (suc limit) to =
     (none_in 0)
 
 -- a found row is one of those that stand in so many bytes
-abbrev pub found_in : (bytes : ℕ) → Found → Type 0
-found_in bytes (At i) = (i + 1) * row_bytes ≤ bytes
-found_in bytes Nothing = Unit
+abbrev pub found_in : (bytes : ℕ) → Option ℕ → Type 0
+found_in bytes (Some i) = (i + 1) * row_bytes ≤ bytes
+found_in bytes None = Unit
 
 -- the state that the found row leaves; if there is none, that of a context without an earlier instruction
-abbrev pub state_found : (ℕ → Cells) → Found → State
-state_found r (At i) = state_of (r i)
-state_found r Nothing = start
+abbrev pub state_found : (ℕ → Cells) → Option ℕ → State
+state_found r (Some i) = state_of (r i)
+state_found r None = start
 
 -- what a search answers: the state, and how many cycles were looked at
 abbrev pub answered : (ℕ → Cells) → Search → Looked

@@ -1,28 +1,19 @@
 // The look-up of a context's state before a row of a trace: back cycle by cycle, over any bytes. Only crates of this repository call these
 // functions: each asks that the rows before are there.
-ghost use Rattle.std.specs.Prelude.{◌≡◌, ◌+◌, ◌*◌, ◌≤◌, length};
+ghost use Rattle.std.specs.Prelude.{◌≡◌, ◌*◌, ◌≤◌, length};
 ghost use Rattle.model.specs.Cycles.{cycle_rows};
 ghost use Rattle.model.specs.Columns.{row_bytes, row_at};
-ghost use Rattle.model.specs.State.{same_context, context_of, state_of};
 ghost use Rattle.state.specs.Look.{search_back, found_in, state_found, look_back};
 ghost use Rattle.state.specs.Plain.{context, state, looked};
 
-use crate::{Context, State, same_context, start_state};
-use gas::{Bytes, Gas};
+use crate::{Context, State};
 use model::{IN_ROWS, OUT_ROWS};
-use row::read::{cn_at, costn_at, memn_at, ooob_at};
+use row::view::RowBytes;
 
-// What a search finds: a row by its number, or nothing.
-#[derive(Clone, Copy)]
-pub enum Found {
-    At(usize),
-    Nothing,
-}
-
-// What a search found, and how many cycles it looked at.
+// The row that a search found, if any, and how many cycles it looked at.
 #[derive(Clone, Copy)]
 pub struct Search {
-    pub found: Found,
+    pub found: Option<usize>,
     pub count: usize,
 }
 
@@ -33,68 +24,35 @@ pub struct Looked {
     pub cycles: usize,
 }
 
-// How many rows the cycle of row i has.
-pub fn cycle_rows_at(t: &[u8], i: usize) -> usize
-    requires { (i + 1) * row_bytes ≤ length t.now }
-    ensures { result ≡ cycle_rows (row_at t.now i) }
+// How many rows the cycle of a row has.
+#[tactic(auto, unfolding(model::specs::Constraints::last_ct))]
+pub fn cycle_rows(row: &RowBytes) -> usize
+    ensures { result ≡ cycle_rows row.now }
 {
-    if ooob_at(t, i) == 1 {
-        OUT_ROWS
-    } else {
-        IN_ROWS
-    }
-}
-
-// The context of row i.
-pub fn context_at(t: &[u8], i: usize) -> Context
-    requires { (i + 1) * row_bytes ≤ length t.now }
-    ensures { context result ≡ context_of (row_at t.now i) }
-{
-    Context { cn: cn_at(t, i) }
-}
-
-// Whether row i has the context.
-pub fn has_context(t: &[u8], i: usize, x: Context) -> bool
-    requires { (i + 1) * row_bytes ≤ length t.now }
-    ensures { result ≡ same_context (context_of (row_at t.now i)) (context x) }
-{
-    same_context(context_at(t, i), x)
-}
-
-// The state that row i leaves.
-pub fn state_at(t: &[u8], i: usize) -> State
-    requires { (i + 1) * row_bytes ≤ length t.now }
-    ensures { state result ≡ state_of (row_at t.now i) }
-{
-    State {
-        mem: Bytes(memn_at(t, i)),
-        cost: Gas(costn_at(t, i) as u64),
-    }
+    if row.ooob() == 1 { OUT_ROWS } else { IN_ROWS }
 }
 
 // The last row of the latest cycle with the context before this row. The search goes back cycle by cycle, over at most so many, and counts
-// them; it ends where no whole cycle is left.
+// them; it ends where no whole cycle is left. Document 01 gives the loop its form: backward, with the found place or none by `break`.
 pub fn search_back(t: &[u8], row: usize, limit: usize, x: Context) -> Search
     requires { row * row_bytes ≤ length t.now }
     ensures { result ≡ search_back (row_at t.now) (context x) limit row }
 {
     let mut to = row;
     let mut count: usize = 0;
-    let found: Found = loop {
-        if count == limit {
-            break Found::Nothing;
-        }
-        if to == 0 {
-            break Found::Nothing;
+    let found: Option<usize> = loop {
+        if count == limit || to == 0 {
+            break None;
         }
         let last = to - 1;
-        let rows = cycle_rows_at(t, last);
+        let end = RowBytes::of_row(t, last);
+        let rows = cycle_rows(&end);
         if to < rows {
-            break Found::Nothing;
+            break None;
         }
         count += 1;
-        if has_context(t, last, x) {
-            break Found::At(last);
+        if x.is_of(&end) {
+            break Some(last);
         }
         to -= rows;
     };
@@ -102,13 +60,13 @@ pub fn search_back(t: &[u8], row: usize, limit: usize, x: Context) -> Search
 }
 
 // The state that the found row leaves; if there is none, that of a context without an earlier instruction.
-pub fn state_found(t: &[u8], found: Found) -> State
+pub fn state_found(t: &[u8], found: Option<usize>) -> State
     requires { found_in (length t.now) found }
     ensures { state result ≡ state_found (row_at t.now) found }
 {
     match found {
-        Found::At(i) => state_at(t, i),
-        Found::Nothing => start_state(),
+        Some(i) => State::of_row(&RowBytes::of_row(t, i)),
+        None => State::default(),
     }
 }
 
@@ -118,10 +76,8 @@ pub fn state_before(t: &[u8], row: usize, limit: usize, x: Context) -> Looked
     ensures { looked result ≡ look_back (row_at t.now) (context x) limit row }
 {
     let s = search_back(t, row, limit, x);
-    let found = s.found;
-    let state = state_found(t, found);
     Looked {
-        state,
+        state: state_found(t, s.found),
         cycles: s.count,
     }
 }

@@ -1,20 +1,15 @@
--- Laws of bytes put into a buffer: two runs join to one, and a line put at the start is what the buffer begins with.
-use Prim.Native.Nat.{ℕ, suc, ◌+◌, ◌≤◌, ◌<◌}
-use mathlib.Core.List.{List, ◌++◌}
+-- Laws of bytes put into a buffer: two runs join to one, and a line put at the start is what the buffer begins with; so what is put where a page ends is what the page
+-- shows behind the rest.
+use Prim.Native.Nat.{ℕ, ◌+◌, ◌≤◌}
+use mathlib.Core.List.{List, ◌++◌, append_assoc}
 use mathlib.Core.Path.{◌≡◌, sym, ◌∙◌, ap}
 use native.Mathlib.Nat.{zero-add}
 use native.Mathlib.Omega.{arith}
-use lib.ListN.{length, take, drop, get_or, set, length-append, take-append-drop}
-use lib.Seq.{sets, sets-eq, take-suc, length-sets, length-take-le, take-append_seam, drop-append_seam}
+use lib.ListN.{length, take, drop, length-append, take-append-drop}
+use lib.Seq.{sets, sets-eq, length-sets, take-append_seam, drop-append_seam}
+use Rattle.std.proofs.Common.{length-take-le}
 use Rattle.number.proofs.StoreLaws.{sets-append}
 use Rattle.text.specs.Line.{Put, Front}
-
--- a turn of a copying loop: the byte at place i of s is stored behind the i bytes before it
-pub sets_next : (l : List ℕ) (at : ℕ) (s : List ℕ) (i : ℕ) → i < length s
-    → set (sets l at (take i s)) (at + i) (get_or s i 0) ≡ sets l at (take (suc i) s)
-sets_next l at s i h =
-    let e : length (take i s) ≡ i = length-take-le i s (omega arith) in
-    rw (take-suc s i 0 h, ← sets-append, e)
 
 -- bytes put, and more put where they end, are all put
 pub put_then : {l m n a b : List ℕ} {i j k : ℕ} → Put l i a m j → Put m j b n k → Put l i (a ++ b) n k
@@ -54,3 +49,19 @@ front_one {l} {m} {n} {a} {r} {s} p q =
     let here : m ≡ a ++ drop r l = sym (take-append-drop r m) ∙ rw (p.first, p.rest) in
     let there : n ≡ a ++ drop s l = sym (take-append-drop s n) ∙ rw (q.first, q.rest) in
     (e, here ∙ ap (λ (k : ℕ). a ++ drop k l) e ∙ sym there)
+
+-- ---- pages
+
+-- texts put on a page one after the other are one text
+pub put_more : {m n : List ℕ} (l a b : List ℕ) → m ≡ l ++ a → n ≡ m ++ b → n ≡ l ++ (a ++ b)
+put_more l a b p q = q ∙ ap (λ (k : List ℕ). k ++ b) p ∙ append_assoc l a b
+
+-- bytes put into the buffer of a page where it ends, are what the page shows behind the bytes that it showed
+pub put_shows : {l m a : List ℕ} {i j : ℕ} → Put l i a m j → i ≤ length l → j ≤ length m → take j m ≡ take i l ++ a
+put_shows {l} {m} {a} {i} {j} p h k = (put_front (put_then (stands l i h) p) k).first
+  where
+    stands : (l : List ℕ) (i : ℕ) → i ≤ length l → Put l 0 (take i l) l i
+    stands l i h =
+        let e : length (take i l) ≡ i = length-take-le i l h in
+        let fits : 0 + length (take i l) ≤ length l = omega (arith, e, h) in
+        record { stored = sym (rw (sets-eq (take i l) l 0 fits, zero-add, e) (take-append-drop i l)); after = omega (arith, e) }

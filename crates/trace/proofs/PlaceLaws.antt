@@ -8,20 +8,23 @@ use native.Mathlib.Omega.{arith}
 use borrow.Author.Tests.{leb-true, leb-false}
 use lib.Dec.{leb}
 use lib.ListN.{length}
+use Rattle.std.specs.Prelude.{Ok, Err}
 use Rattle.number.specs.Num.{AllBytes}
-use Rattle.number.proofs.TestLaws.{clash}
+use Rattle.number.proofs.TestLaws.{clash, both}
 use Rattle.model.specs.Columns.{row_bytes, row_at, rows_of}
 use Rattle.model.specs.Cycles.{cycle_rows, Cycle, counts, instruction, is_instruction, next_row}
-use Rattle.model.specs.Promises.{Accepted, claims_in}
+use Rattle.model.specs.Promises.{Accepted, empty_in, claims_in}
 use Rattle.model.specs.Verdict as model
 use Rattle.model.specs.Verdict.{Verdict, verdict}
 use Rattle.model.proofs.ExactlyOne.{accepted_by}
 use Rattle.model.proofs.InstructionLaws.{instructions_counted, is_instruction_lem, no_instruction_lem, instruction_at, next_after, next_inside}
 use Rattle.refusal.specs.Refusals.{lineless, not_accepted, no_instruction}
 use Rattle.refusal.specs.declared.Refusal.{Refusal}
-use Rattle.trace.specs.Asked.{Answer, given, refused, where_is}
-use Rattle.trace.specs.Told.{told_place}
-use Rattle.trace.specs.declared.place.Place.TheVariants.{At, Refused}
+use Rattle.count.specs.declared.Counts.{Counts}
+use Rattle.trace.specs.Asked.{Answer, given, refused, where_is, admitted}
+use Rattle.trace.specs.Told.{told_admitted, told_place}
+use Rattle.trace.specs.declared.place.Place.{Place}
+use Rattle.trace.proofs.AdmitLaws.{accepted_if_admitted, instructions_told, empty_told}
 
 -- ---- what is answered
 
@@ -61,6 +64,26 @@ module _ (l : List ℕ) where
       pub where_next : where_is l (suc k) ≡ given (cycle_at l (next_row (rows_of l) k))
       where_next = where_given ∙ ap given (instruction_at l a k h)
 
+-- ---- instruction k of an accepted trace with these counts
+
+pub record Among (l : List ℕ) (c : Counts) (k : ℕ) : Type 0 where
+  pub accepted : Accepted l
+  pub empty : c.empty ≡ empty_in l
+  pub some : 1 ≤ k
+  pub few : k ≤ length (claims_in l)
+
+-- it is there, if the trace was let in with these counts and k is one of their instructions
+pub among : (l : List ℕ) → AllBytes l → {c : Counts} → Ok c ≡ told_admitted (admitted l) → (k : ℕ) → (leb 1 k && leb k c.instructions) ≡ true → Among l c k
+among l bytes {c} told k counted =
+    let (accepted, counts) = accepted_if_admitted l bytes (sym told) in
+    let (some, few) = both (leb 1 k) (leb k c.instructions) counted in
+    record {
+      accepted = accepted;
+      empty = empty_told l counts;
+      some = leb-true 1 k some;
+      few = rw (instructions_told l counts) at (leb-true k c.instructions few);
+    }
+
 -- ---- what was told
 
 -- what is so where instruction k was told to stand at row `first` with n rows: its cycle starts there, has so many rows, and they are all there
@@ -79,31 +102,31 @@ stands_next l a k h = record {
 }
 
 -- a place that was told is one where the instruction stands
-pub told_stands : (l : List ℕ) → AllBytes l → (k : ℕ) {first n : ℕ} → told_place (where_is l k) ≡ At first n → Stands l k first n
-told_stands l bytes k {first} {n} told = by (verdict l) refl
+pub told_stands : (l : List ℕ) → AllBytes l → (k : ℕ) {p : Place} → told_place (where_is l k) ≡ Ok p → Stands l k p.first p.rows
+told_stands l bytes k {p} told = by (verdict l) refl
   where
-    not_refused : {m : ℕ} → where_is l k ≡ refused m → Stands l k first n
-    not_refused e =
-        let h : Refused (lineless _) ≡ At first n = sym (ap told_place e) ∙ told in
+    not_refused : {m : ℕ} → where_is l k ≡ refused m → Stands l k p.first p.rows
+    not_refused {m} e =
+        let h : Err (lineless m) ≡ Ok p = sym (ap told_place e) ∙ told in
         clash cc
 
-    inner : Accepted l → (j : ℕ) → k ≡ j → (t : Bool) → leb j (length (claims_in l)) ≡ t → Stands l k first n
+    inner : Accepted l → (j : ℕ) → k ≡ j → (t : Bool) → leb j (length (claims_in l)) ≡ t → Stands l k p.first p.rows
     inner a zero e t h = not_refused (where_none l a k (inl e))
     inner a (suc j) e false h = not_refused (where_none l a k (inr (omega (arith, leb-false (suc j) (length (claims_in l)) h))))
     inner a (suc j) e true h =
         let s = stands_next l a j (leb-true (suc j) (length (claims_in l)) h) in
         let q : ℕ = next_row (rows_of l) j in
-        let same : At q (cycle_rows (row_at l q)) ≡ At first n = sym (ap told_place s.cycle) ∙ ap (λ m. told_place (where_is l m)) (sym e) ∙ told in
-        let at : q ≡ first = cc in
-        let rows : cycle_rows (row_at l q) ≡ n = cc in
-        rw (e, ← at, ← rows) s
+        let stood : Place = record { first = q; rows = cycle_rows (row_at l q) } in
+        let same : Ok stood ≡ Ok p = sym (ap told_place s.cycle) ∙ ap (λ m. told_place (where_is l m)) (sym e) ∙ told in
+        let place : stood ≡ p = cc in
+        rw (e, ← place) s
 
-    by : (v : Verdict) → verdict l ≡ v → Stands l k first n
+    by : (v : Verdict) → verdict l ≡ v → Stands l k p.first p.rows
     by (model.accepted d) e = inner (accepted_by l d bytes e) k refl (leb k (length (claims_in l))) refl
     by (model.broken i j) e = not_refused (where_broken l k e)
     by (model.refused m) e = not_refused (where_no_trace l k e)
 
 -- a refusal that was told is the answer
-pub told_refused : (a : Answer Cycle) {w : Refusal} → told_place a ≡ Refused w → (n : ℕ) × (w ≡ lineless n) × (a ≡ refused n)
+pub told_refused : (a : Answer Cycle) {w : Refusal} → told_place a ≡ Err w → (n : ℕ) × (w ≡ lineless n) × (a ≡ refused n)
 told_refused (given c) e = clash cc
 told_refused (refused n) e = (n, cc, refl)

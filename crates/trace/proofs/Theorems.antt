@@ -4,6 +4,7 @@ use mathlib.Core.List.{List}
 use mathlib.Core.Logic.{◌≢◌, ◌⊎◌}
 use mathlib.Core.Path.{◌≡◌, refl, ◌∙◌, ap}
 use lib.ListN.{length, get_or, take, drop}
+use Rattle.std.specs.Prelude.{None}
 use Rattle.model.specs.Columns.{row_bytes, row_at, rows_of, bytes_of}
 use Rattle.model.specs.Cycles.{Cycle, Claim, instruction, is_instruction, part, instruction_part, instruction_claim}
 use Rattle.model.specs.Promises.{WellSized, FirstBroken, Accepted, claims_in}
@@ -13,7 +14,7 @@ use Rattle.model.specs.Trace.{cycle_of, after_claims}
 use Rattle.model.specs.Verdict.{bad_length, too_many_rows, max_rows, verdict}
 use Rattle.model.proofs.InstructionLaws.{is_instruction_lem, claim_is, part_is}
 use Rattle.model.proofs.VerdictLaws.{verdict_broken, refused_length, refused_rows}
-use Rattle.refusal.specs.Refusals.{no_refusal, not_accepted, no_instruction}
+use Rattle.refusal.specs.Refusals.{not_accepted, no_instruction}
 use Rattle.trace.specs.Asked.{Answer, given, refused, of_accepted, where_is, part_of, claim_in}
 use Rattle.trace.specs.Told.{refusal_of, told_place, PartNumbers, part_numbers}
 use Rattle.trace.proofs.PlaceLaws.{where_none, where_given}
@@ -62,7 +63,7 @@ numbers_name_the_part l k = by (where_is l k)
 
 module _ (l : List ℕ) (a : Accepted l) (k : ℕ) (h : k < length (claims_in l)) where
   -- its rows and its claim are not refused
-  pub where_not_refused : refusal_of (where_is l (suc k)) ≡ no_refusal
+  pub where_not_refused : refusal_of (where_is l (suc k)) ≡ None
   where_not_refused = rw (where_given l a k h)
 
   -- the rows that come back are those of the definitions

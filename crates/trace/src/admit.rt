@@ -7,24 +7,13 @@ use checker::{Verdict, check};
 use count::Counts;
 use refusal::Refusal;
 
-// An accepted trace with its counts, or why there is none.
-#[derive(Clone, Copy)]
-pub enum Admitted {
-    With(Counts),
-    Refused(Refusal),
-}
-
-// Whether the bytes are an accepted trace.
-pub fn admit(t: &[u8]) -> Admitted
+// The counts of an accepted trace, or why the bytes are none.
+pub fn admit(t: &[u8]) -> Result<Counts, Refusal>
     ensures { result ≡ told_admitted (admitted t.now) }
 {
-    let verdict = check(t);
-    match verdict {
-        Verdict::Accepted(c) => Admitted::With(c),
-        Verdict::Broken {
-            row: _,
-            constraint: _,
-        } => Admitted::Refused(refusal::not_accepted()),
-        Verdict::Refused(why) => Admitted::Refused(why),
+    match check(t) {
+        Verdict::Accepted(counts) => Ok(counts),
+        Verdict::Broken { .. } => Err(Refusal::NotAccepted),
+        Verdict::Refused(why) => Err(why),
     }
 }

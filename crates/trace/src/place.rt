@@ -1,72 +1,47 @@
 // Where instruction k of a trace stands, its rows and its claim.
 ghost use Rattle.std.specs.Prelude.{◌≡◌};
-ghost use Rattle.trace.specs.Asked.{where_is, part_of, claim_in};
-ghost use Rattle.trace.specs.Told.{refusal_of, told_place, told_claimed};
+ghost use Rattle.trace.specs.Asked.{where_is, claim_in};
+ghost use Rattle.trace.specs.Told.{told_place, told_rows, told_claimed, rows_now};
 
-use crate::admit::{Admitted, admit};
-use claim::claim::{Claim, claim_shown};
+use crate::admit::admit;
+use claim::claim::{Claim, claim_in};
 use part::{is_among, row_after, rows_from};
 use refusal::Refusal;
-use state::look::cycle_rows_at;
+use row::view::RowBytes;
+use state::look::cycle_rows;
 
-// Where an instruction stands: document 01's numbers for each case are `part_numbers` of specs/Told.antt.
+// Where an instruction stands: its first row, and how many rows it has.
 #[derive(Clone, Copy)]
-pub enum Place {
-    // Its first row, and how many rows it has.
-    At { first: usize, rows: usize },
-    Refused(Refusal),
+pub struct Place {
+    pub first: usize,
+    pub rows: usize,
 }
 
-// The claim of an instruction: document 01's numbers for each case are `claim_numbers` of specs/Told.antt.
-#[derive(Clone, Copy)]
-pub enum Claimed {
-    Is(Claim),
-    Refused(Refusal),
-}
-
-// Where instruction k (from 1) stands. Every trace and number has an answer.
-pub fn place_of(t: &[u8], k: u64) -> Place
+// Where instruction k (from 1) stands. Every trace and number has an answer; document 01's numbers for each are `part_numbers` of specs/Told.antt.
+pub fn place_of(t: &[u8], k: u64) -> Result<Place, Refusal>
     ensures { result ≡ told_place (where_is t.now k) }
 {
-    let admitted = admit(t);
-    match admitted {
-        Admitted::Refused(why) => Place::Refused(why),
-        Admitted::With(c) => {
-            if is_among(k, c.instructions) {
-                let first = row_after(t, c.empty as usize, k - 1);
-                let rows = cycle_rows_at(t, first);
-                return Place::At { first, rows };
-            }
-            Place::Refused(refusal::no_instruction())
-        }
+    let counts = admit(t)?;
+    if !is_among(k, counts.instructions) {
+        return Err(Refusal::NoInstruction);
     }
+    let first = row_after(t, counts.empty as usize, k - 1);
+    let rows = cycle_rows(&RowBytes::of_row(t, first));
+    Ok(Place { first, rows })
 }
 
-// The rows of instruction k as a part of the trace itself, and the number of its refusal: 0 and so many rows, or an empty part.
-pub fn rows_of<'a>(t: &'a [u8], k: u64, refused: &mut u64) -> &'a [u8]
-    ensures result_value { result.now ≡ part_of t.now (where_is t.now k) }
-    ensures refused_after { refused.new ≡ (refusal_of (where_is t.now k)).number }
+// The rows of instruction k, as a part of the trace itself.
+pub fn rows_of<'a>(t: &'a [u8], k: u64) -> Result<&'a [u8], Refusal>
+    ensures { rows_now result ≡ told_rows t.now (where_is t.now k) }
 {
-    let place = place_of(t, k);
-    match place {
-        Place::At { first, rows } => {
-            *refused = 0;
-            rows_from(t, first, rows)
-        }
-        Place::Refused(why) => {
-            *refused = why.number;
-            &t[0..0]
-        }
-    }
+    let place = place_of(t, k)?;
+    Ok(rows_from(t, place.first, place.rows))
 }
 
-// The claim of instruction k.
-pub fn claim_at(t: &[u8], k: u64) -> Claimed
+// The claim of instruction k; document 01's numbers for each answer are `claim_numbers` of specs/Told.antt.
+pub fn claim_at(t: &[u8], k: u64) -> Result<Claim, Refusal>
     ensures { result ≡ told_claimed (claim_in (where_is t.now k)) }
 {
-    let place = place_of(t, k);
-    match place {
-        Place::At { first, rows: _ } => Claimed::Is(claim_shown(t, first)),
-        Place::Refused(why) => Claimed::Refused(why),
-    }
+    let place = place_of(t, k)?;
+    Ok(claim_in(&RowBytes::of_row(t, place.first)))
 }

@@ -1,5 +1,5 @@
 -- What a walker owns: of its trace, and nothing of its next row but that it is a number. It is made, taken apart, put into memory and taken out of
--- it; and so is what was opened, which holds one.
+-- it.
 use Prim.Native.Nat.{ℕ, ◌<◌, ◌^◌}
 use mathlib.Core.List.{List, [], ◌∷◌}
 use mathlib.Core.Path.{◌≡◌}
@@ -15,7 +15,6 @@ use denote.RattleType.{RattleType}
 use denote.Laws.{Is, shows}
 use denote.Memory.{mem, cell_at, part_of}
 use denote.Ref.{Bor, NamedLft}
-use denote.Steps.{owned, nothing}
 use denote.Struct.At.{get_at, spelled}
 use denote.Struct.Declared.{Declared, shape}
 use denote.Struct.Laws as LL
@@ -23,14 +22,8 @@ use denote.Struct.Rest.{all_own, field_own, rest, own_open, own_out, own_shut}
 use denote.Struct.Steps.{spelt}
 use denote.Struct.Struct.{Struct}
 use denote.Struct.Values.{Values, intos}
-use Rattle.refusal.specs.declared.Refusal.{Refusal}
-use Rattle.refusal.specs.contracts.Refusal as R
-use Rattle.refusal.proofs.Refusal.TheLaws as R'
-use Rattle.walker.specs.declared.Opened.{Opened}
 use Rattle.walker.specs.declared.Walker.{Walker}
 use Rattle.walker.proofs.Called.{SliceOwns, number}
-use Rattle.walker.specs.contracts.Opened as O
-use Rattle.walker.proofs.Opened.TheLaws as O'
 use Rattle.walker.specs.contracts.Walker as T
 use Rattle.walker.proofs.Walker.TheLaws as T'
 
@@ -52,13 +45,9 @@ body κ = record { mir = erased; lft = κ }
 abbrev pub WalkerAt : Lft → RattleType
 WalkerAt κ = T.the_row (body κ)
 
--- what a walker owns at its machine value, and what was opened at its own
+-- what a walker owns at its machine value
 abbrev pub WalkerOwns : Lft → Walker → Fml
 WalkerOwns κ w = (WalkerAt κ).own_val w (T'.lowered w ∷ [])
-
--- what was opened at its own
-abbrev pub OpenedOwns : Lft → Opened → Fml
-OpenedOwns κ o = (O.the_row (body κ)).own_val o (O'.lowered o ∷ [])
 
 module _ {M : Type 1} {𝓤 : Ura M} (𝓛 : Logic 𝓤) (κ : Lft) where
   open 𝓛 use {H}
@@ -68,12 +57,6 @@ module _ {M : Type 1} {𝓤 : Ura M} (𝓛 : Logic 𝓤) (κ : Lft) where
 
   abbrev L : LL.Laws D
   L = T'.the_laws (body κ)
-
-  abbrev E : Declared
-  E = O.the_type (body κ)
-
-  abbrev K : LL.Laws E
-  K = O'.the_laws (body κ)
 
   -- a walker is made of its trace and its next row
   pub walker_made : (s : Bor (List ℕ)) (n : ℕ) → n < 2 ^ 64 → ent 𝓤 (sem 𝓛 (SliceOwns κ s))
@@ -85,18 +68,6 @@ module _ {M : Type 1} {𝓤 : Ura M} (𝓛 : Logic 𝓤) (κ : Lft) where
   -- its trace is taken out
   pub trace_of : (w : Walker) → ent 𝓤 (sem 𝓛 (WalkerOwns κ w)) (sem 𝓛 (SliceOwns κ w.trace))
   trace_of w = field_of 𝓛 D L 0 (w.trace, (w.next, tt)) (T'.lowered w)
-
-  -- what is opened is made of a refusal and a walker
-  pub opened_made : (why : Refusal) (w : Walker) → Is R.the_row why (R'.lowered why ∷ [])
-      → ent 𝓤 (sem 𝓛 (WalkerOwns κ w)) (sem 𝓛 (OpenedOwns κ (record { why = why; walker = w })))
-  opened_made why w is =
-      qed 𝓛 (‵ (WalkerOwns κ w) ∷ []) ∵ nothing ! $ move ! (1 ∷ 0 ∷ []) $ fjoin ! $
-      owned ! R.the_row (Is R.the_row) (LL.makes R.the_type R'.the_plain 𝓛) why _ is $ fjoin ! $
-      by ! (own_shut 𝓛 E K (why, (w, tt)))
-
-  -- its walker is taken out
-  pub walker_of : (o : Opened) → ent 𝓤 (sem 𝓛 (OpenedOwns κ o)) (sem 𝓛 (WalkerOwns κ o.walker))
-  walker_of o = field_of 𝓛 E K 1 (o.why, (o.walker, tt)) (O'.lowered o)
 
   -- a walker in a local lies in memory, where it can be lent
   pub put_in : (w : Walker) (b : ℕ) → ent 𝓤 (sep 𝓤 (H.at full_share (T'.mir erased) b 0 (T'.lowered w)) (sem 𝓛 (WalkerOwns κ w)))

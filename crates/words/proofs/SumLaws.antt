@@ -1,10 +1,40 @@
 -- The sum of a small number and one of 17 bytes, part by part.
 use Rattle.std.proofs.Common.{◌≡◌, ℕ, ◌+◌, ◌*◌, ◌%◌, ◌^◌, ◌<◌, Bool, true, false, ◌&&◌, eqb, ltb, refl, ap, ◌∙◌, arith, ltb-false, ltb-true, eq-eqb, eqb-true}
 use mathlib.Core.Bool.{and_assoc}
+use Rattle.std.specs.Bool.{FalseIff}
+use Rattle.std.specs.Int.{from_bool}
 use Rattle.number.specs.Whole.{val}
 use Rattle.number.specs.declared.wide.Wide.{Wide}
 use Rattle.number.proofs.TestLaws.{same_test, both, both_intro}
 use Rattle.model.specs.Tests.{bit}
+
+-- a sum is its part and what the part carries
+pub carries : (x n v : ℕ) (t : Bool) → x < 2 ^ 64 → n < 2 ^ 64 → v ≡ (x + n) % 2 ^ 64 → FalseIff t (x + n < 2 ^ 64) → x + n ≡ from_bool t * 2 ^ 64 + v
+carries x n v true hx hn e f = omega (arith, f)
+carries x n v false hx hn e f = omega (arith, f)
+
+-- a is n + b, where the sums of the parts and what they carry are known
+pub eqb_sum : (a b : Wide) (n lo hi f g : ℕ) → a.hi < 2 ^ 64 → a.lo < 2 ^ 64 → lo < 2 ^ 64 → hi < 2 ^ 64
+    → b.lo + n ≡ f * 2 ^ 64 + lo → b.hi + f ≡ g * 2 ^ 64 + hi
+    → ((eqb lo a.lo && eqb hi a.hi) && eqb (b.top + g) a.top) ≡ eqb (n + val b) (val a)
+unfolding val
+eqb_sum a b n lo hi f g ah al hlo hhi e1 e2 =
+    same_test ((eqb lo a.lo && eqb hi a.hi) && eqb (b.top + g) a.top) (eqb (n + val b) (val a)) there back
+  where
+    there : ((eqb lo a.lo && eqb hi a.hi) && eqb (b.top + g) a.top) ≡ true → eqb (n + val b) (val a) ≡ true
+    there e =
+        let (p, r) = both (eqb lo a.lo && eqb hi a.hi) (eqb (b.top + g) a.top) e in
+        let (p, q) = both (eqb lo a.lo) (eqb hi a.hi) p in
+        eq-eqb (n + val b) (val a) (omega (arith, eqb-true lo a.lo p, eqb-true hi a.hi q, eqb-true (b.top + g) a.top r))
+
+    back : eqb (n + val b) (val a) ≡ true → ((eqb lo a.lo && eqb hi a.hi) && eqb (b.top + g) a.top) ≡ true
+    back e =
+        let q = eqb-true (n + val b) (val a) e in
+        both_intro (eqb lo a.lo && eqb hi a.hi) (eqb (b.top + g) a.top)
+        (both_intro (eqb lo a.lo) (eqb hi a.hi) (eq-eqb lo a.lo (omega arith)) (eq-eqb hi a.hi (omega arith)))
+        (eq-eqb (b.top + g) a.top (omega arith))
+
+-- ---- the carries told from the sum's parts
 
 -- the carry out of a part is 1 just where the sum's part is below what was added
 carry : (n y v : ℕ) → n < 2 ^ 64 → y < 2 ^ 64 → (n + y) % 2 ^ 64 ≡ v → n + y ≡ bit (ltb v n) * 2 ^ 64 + v

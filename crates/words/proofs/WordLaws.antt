@@ -1,25 +1,29 @@
 -- The words that the rules are written in, and what constraints 19 and 25 ask in them.
-use Rattle.std.proofs.Common.{◌≡◌, ℕ, ◌+◌, ◌-◌, ◌*◌, ◌^◌, ◌<◌, Bool, true, false, eqb, ltb, leb, sym, refl, ◌∙◌, add_comm, arith, ltb-false, ltb-true, ne_eqb, le-leb}
+use Rattle.std.proofs.Common.{◌≡◌, ℕ, ◌+◌, ◌*◌, Bool, true, false, eqb, ltb, leb, sym, refl, ◌∙◌, add_comm, arith, ltb-false, ltb-true, le-leb}
+use Rattle.std.specs.Int.{from_bool}
 use borrow.Author.Tests.{lt-leb}
-use Rattle.number.specs.Whole.{bound}
-use Rattle.model.specs.Tests.{pick, is_difference, sums_up}
+use Rattle.number.specs.Whole.{bound, val}
+use Rattle.number.specs.declared.wide.Wide.{Wide}
+use Rattle.model.specs.Tests.{bit, pick, is_difference, sums_up}
 use Rattle.model.proofs.TestFacts.{pick_under}
 
 -- an equation by way of another, whose right side is known first
 pub through : {A : Type 0} {r m k : A} → m ≡ k → r ≡ m → r ≡ k
 through e f = f ∙ e
 
+-- a test as a number, in the library's word and in the model's
+pub from_bool_bit : (t : Bool) → from_bool t ≡ bit t
+from_bool_bit true = refl
+from_bool_bit false = refl
+
 -- a test of what is picked is the pick of two tests
 pub sums_up_picks : (ct before x y : ℕ) → pick (eqb ct 0) (eqb y x) (eqb y (256 * before + x)) ≡ sums_up ct before x y
 unfolding sums_up
 sums_up_picks ct before x y = pick_under (eqb y) (eqb ct 0) x (256 * before + x)
 
--- the square of 2^32 is no number of 64 bits
-pub no_square : (q v : ℕ) → q ≡ 2 ^ 32 - 1 → v < 2 ^ 64 → false ≡ eqb ((1 + q) * (1 + q)) v
-no_square q v e h = sym (ne_eqb ((1 + q) * (1 + q)) v (λ s. past (rw e at s)))
-  where
-    past : (1 + (2 ^ 32 - 1)) * (1 + (2 ^ 32 - 1)) ≡ v → ⊥
-    past s = omega arith
+-- the number of what is picked is the pick of two numbers
+pub val_pick : (t : Bool) (a b : Wide) → val (pick t a b) ≡ pick t (val a) (val b)
+val_pick t a b = sym (pick_under val t a b)
 
 -- a gap between two ends by two sums of a small number and one of 17 bytes
 pub gap_sums : (comp d end1 end2 : ℕ)

@@ -2,132 +2,82 @@
 // repository call `put_row`: it asks that there is room for the row.
 #![tactic(auto)]
 
-ghost use Rattle.std.specs.Prelude.{◌≡◌, ◌+◌, ◌*◌, ◌≤◌, length};
+ghost use Rattle.std.specs.Prelude.{◌≡◌, ◌+◌, ◌*◌, ◌^◌, ◌<◌, ◌≤◌, length, true};
 ghost use Rattle.std.proofs.lemmas.List.Edits.{sets};
-ghost use Rattle.number.specs.Cells.{encode};
+ghost use Rattle.number.specs.Cells.{total, encode};
 ghost use Rattle.number.specs.Num.{be};
 ghost use Rattle.model.specs.Columns.{columns, cells_in, widths, row_bytes};
+ghost use Rattle.row.specs.Group.{at_once};
 ghost use Rattle.row.specs.Plain.{plain};
 ghost use Rattle.writer.specs.Stores.{part_stored};
 
-use cell::join::{join_1_1, join_1_3, join_2_6, join_3_3, join_4_4};
 use cell::write::{put_u16, put_u24, put_u32, put_u64, put_wide};
 use model::ROW_BYTES;
 use row::cells::Row;
+use row::group::Group;
 use row::place;
+use row::three::Three;
 
-// What is past the last number of three bytes. Of a cell of three bytes the last three count.
-const THREE_BYTES: u32 = number::FIRST_OF_FOUR;
-
-// Cells that stand side by side, the first of them o bytes after p.
-
-fn put_1_1(buf: &mut [u8], p: usize, o: usize, a: u8, b: u8)
-    requires { p + o + 2 ≤ length buf.old }
-    ensures { buf.new ≡ sets (sets buf.old (p + o) (be 1 a)) (p + (o + 1)) (be 1 b) }
+// The number n in `width` bytes from `at` on. The width is a constant of a group's type, so that one of the three is left where the call is compiled.
+fn put_number(buf: &mut [u8], at: usize, width: usize, n: u64)
+    requires there { at + width ≤ length buf.old }
+    requires once { at_once width ≡ true }
+    requires fits { n < 256 ^ width }
+    ensures { buf.new ≡ sets buf.old at (be width n) }
 {
-    put_u16(buf, p + o, join_1_1(a, b));
+    match width {
+        2 => put_u16(buf, at, n as u16),
+        4 => put_u32(buf, at, n as u32),
+        _ => put_u64(buf, at, n),
+    }
 }
 
-fn put_1_3(buf: &mut [u8], p: usize, o: usize, a: u8, b: u32)
-    requires { p + o + 4 ≤ length buf.old }
-    ensures { buf.new ≡ sets (sets buf.old (p + o) (be 1 a)) (p + (o + 1)) (be 3 b) }
+// Cells that stand side by side, the first of them at `at`.
+fn put_cells<C: Group>(buf: &mut [u8], at: usize, cells: C)
+    requires there { at + total C.widths ≤ length buf.old }
+    requires once { at_once (total C.widths) ≡ true }
+    ensures { buf.new ≡ sets buf.old at (encode C.widths (C.values cells)) }
 {
-    put_u32(buf, p + o, join_1_3(a, b % THREE_BYTES));
+    put_number(buf, at, C::width(), cells.behind(0));
 }
 
-fn put_4_4(buf: &mut [u8], p: usize, o: usize, a: u32, b: u32)
-    requires { p + o + 8 ≤ length buf.old }
-    ensures { buf.new ≡ sets (sets buf.old (p + o) (be 4 a)) (p + (o + 4)) (be 4 b) }
-{
-    put_u64(buf, p + o, join_4_4(a, b));
-}
-
-fn put_1_3_4(buf: &mut [u8], p: usize, o: usize, a: u8, b: u32, c: u32)
-    requires { p + o + 8 ≤ length buf.old }
-    ensures { buf.new ≡ sets (sets (sets buf.old (p + o) (be 1 a)) (p + (o + 1)) (be 3 b)) (p + (o + 1 + 3)) (be 4 c) }
-{
-    put_u64(buf, p + o, join_4_4(join_1_3(a, b % THREE_BYTES), c));
-}
-
-fn put_1_1_3_3(buf: &mut [u8], p: usize, o: usize, a: u8, b: u8, c: u32, d: u32)
-    requires { p + o + 8 ≤ length buf.old }
-    ensures { buf.new ≡ sets (sets (sets (sets buf.old (p + o) (be 1 a)) (p + (o + 1)) (be 1 b)) (p + (o + 1 + 1)) (be 3 c)) (p + (o + 1 + 1 + 3)) (be 3 d) }
-{
-    let back = join_3_3(c % THREE_BYTES, d % THREE_BYTES);
-    put_u64(buf, p + o, join_2_6(join_1_1(a, b), back));
-}
-
-// The parts of x in the row whose first byte is at p.
-
-fn put_head(buf: &mut [u8], p: usize, x: Row)
+// The cells of x up to GAS, in the row whose first byte is at p.
+fn put_up_to_gas(buf: &mut [u8], p: usize, x: Row)
     requires { p + row_bytes ≤ length buf.old }
-    ensures { buf.new ≡ part_stored 0 9 (plain x) buf.old p }
+    ensures { buf.new ≡ part_stored 0 15 (plain x) buf.old p }
 {
-    put_4_4(buf, p, place::STAMP, x.head.stamp, x.head.cn);
-    put_1_1(buf, p, place::OOOB, x.head.ooob, x.head.ct);
-    put_from_end1(buf, p, x);
+    let (head, body) = (x.head, x.body);
+    put_cells(buf, p + place::STAMP, (head.stamp, head.cn));
+    put_cells(buf, p + place::OOOB, (head.ooob, head.ct));
+    put_wide(buf, p + place::END1, head.end1);
+    put_wide(buf, p + place::END2, head.end2);
+    put_cells(buf, p + place::BYTE1, (head.byte1, head.byte2));
+    put_wide(buf, p + place::ACC1, head.acc1);
+    put_u24(buf, p + place::ACC2, head.acc2);
+    put_u24(buf, p + place::MEM, body.mem);
+    put_u24(buf, p + place::MEMN, body.memn);
+    put_cells(buf, p + place::COST, (body.cost, body.costn));
+    put_u32(buf, p + place::GAS, body.gas);
 }
 
-fn put_from_end1(buf: &mut [u8], p: usize, x: Row)
+// Those from COMP on. Of a cell of three bytes the last three count.
+fn put_from_comp(buf: &mut [u8], p: usize, x: Row)
     requires { p + row_bytes ≤ length buf.old }
-    ensures { buf.new ≡ part_stored 4 5 (plain x) buf.old p }
+    ensures { buf.new ≡ part_stored 15 15 (plain x) buf.old p }
 {
-    put_wide(buf, p + place::END1, x.head.end1);
-    put_wide(buf, p + place::END2, x.head.end2);
-    put_1_1(buf, p, place::BYTE1, x.head.byte1, x.head.byte2);
-    put_wide(buf, p + place::ACC1, x.head.acc1);
-}
-
-fn put_body(buf: &mut [u8], p: usize, x: Row)
-    requires { p + row_bytes ≤ length buf.old }
-    ensures { buf.new ≡ part_stored 9 10 (plain x) buf.old p }
-{
-    put_u24(buf, p + place::ACC2, x.head.acc2);
-    put_u24(buf, p + place::MEM, x.body.mem);
-    put_u24(buf, p + place::MEMN, x.body.memn);
-    put_from_cost(buf, p, x);
-}
-
-fn put_from_cost(buf: &mut [u8], p: usize, x: Row)
-    requires { p + row_bytes ≤ length buf.old }
-    ensures { buf.new ≡ part_stored 12 7 (plain x) buf.old p }
-{
-    put_4_4(buf, p, place::COST, x.body.cost, x.body.costn);
-    put_u32(buf, p + place::GAS, x.body.gas);
-    put_1_1_3_3(
+    let (body, tail) = (x.body, x.tail);
+    let dacc_endmax = (Three::last_of(body.dacc), Three::last_of(body.endmax));
+    let eacc_q1 = (Three::last_of(tail.eacc), Three::last_of(tail.q1));
+    let q1byte_q1acc = (tail.q1byte, Three::last_of(tail.q1acc));
+    put_cells(buf, p + place::COMP, ((body.comp, body.dbyte), dacc_endmax));
+    put_cells(buf, p + place::FLAG, ((body.flag, tail.ebyte), eacc_q1));
+    put_cells(buf, p + place::Q1BYTE, (q1byte_q1acc, tail.q2));
+    put_cells(
         buf,
-        p,
-        place::COMP,
-        x.body.comp,
-        x.body.dbyte,
-        x.body.dacc,
-        x.body.endmax,
+        p + place::Q2BYTE,
+        (tail.q2byte, Three::last_of(tail.q2acc)),
     );
-}
-
-fn put_tail(buf: &mut [u8], p: usize, x: Row)
-    requires { p + row_bytes ≤ length buf.old }
-    ensures { buf.new ≡ part_stored 19 11 (plain x) buf.old p }
-{
-    put_1_1_3_3(
-        buf,
-        p,
-        place::FLAG,
-        x.body.flag,
-        x.tail.ebyte,
-        x.tail.eacc,
-        x.tail.q1,
-    );
-    put_1_3_4(
-        buf,
-        p,
-        place::Q1BYTE,
-        x.tail.q1byte,
-        x.tail.q1acc,
-        x.tail.q2,
-    );
-    put_1_3(buf, p, place::Q2BYTE, x.tail.q2byte, x.tail.q2acc);
-    put_1_1(buf, p, place::AUX1, x.tail.aux1, x.tail.aux2);
+    put_cells(buf, p + place::AUX1, (tail.aux1, tail.aux2));
 }
 
 // The cells of x as row i.
@@ -136,7 +86,6 @@ pub fn put_row(buf: &mut [u8], i: usize, x: Row)
     ensures { buf.new ≡ sets buf.old (i * row_bytes) (encode widths (cells_in columns (plain x))) }
 {
     let p = i * ROW_BYTES;
-    put_head(buf, p, x);
-    put_body(buf, p, x);
-    put_tail(buf, p, x);
+    put_up_to_gas(buf, p, x);
+    put_from_comp(buf, p, x);
 }

@@ -2,14 +2,11 @@
 use mathlib.Core.Path.{sym}
 use native.Mathlib.Omega.{arith}
 use Rattle.model.proofs.TableOf.{length-table}
-use Rattle.text.proofs.PutLaws.{put_front}
 use Rattle.account.proofs.ReportLaws.{account_put}
 use Rattle.account.proofs.put_account.Goals as goal
 
 pub put_total-requires : goal.put_total-requires
-put_total-requires c = omega (arith, rw length-table at c.put_lines-lines.ensures.room, c.requires.rows_le_room_rows)
+put_total-requires c = omega (arith, rw length-table at c.put_lines-counts.ensures.room, c.requires.rows_le_room_rows)
 
 pub returns : goal.returns
-returns c =
-    let total = c.put_total.ensures in
-    put_front (account_put _ _ (sym (length-table _ _)) c.put_lines-lines.ensures total.put) total.upper_bound
+returns c = account_put _ _ (sym (length-table _ _)) c.put_lines-counts.ensures c.put_total.ensures

@@ -15,27 +15,27 @@ room = replicate (room_rows * row_bytes) 0
 
 pub returns-then-input-gt-ACCOUNT_BYTES : goal.returns-then-input-gt-ACCOUNT_BYTES
 returns-then-input-gt-ACCOUNT_BYTES c =
-    rw (done-long _ c.if-input-gt-ACCOUNT_BYTES.true) (rw c.list_too_long-long.ensures at c.put_refusal.ensures)
+    rw (done-long _ c.if-input-gt-ACCOUNT_BYTES.true) c.put_refused.ensures
 
 -- where the filler has written rows
 
 pub put_account-requires : goal.put_account-requires
 put_account-requires c =
-    let f = c.fill-filled.ensures in
+    let f = c.fill.ensures in
     let there =
-    written-report c.args.input.now room f.value (search rules) (length-replicate {A = ℕ} (room_rows * row_bytes) 0) c.in-Rows.is f.buf_after in
+    written-report c.args.input.now room f.value (search rules) (length-replicate {A = ℕ} (room_rows * row_bytes) 0) c.in-Ok.is f.buf_after in
     record { row_bytes_in_bounds = there.room; rows_le_room_rows = there.rows }
 
-pub returns-in-Rows : goal.returns-in-Rows
-returns-in-Rows c =
-    let f = c.fill-filled.ensures in
+pub returns-in-Ok : goal.returns-in-Ok
+returns-in-Ok c =
+    let f = c.fill.ensures in
     let there =
-    written-report c.args.input.now room f.value (search rules) (length-replicate {A = ℕ} (room_rows * row_bytes) 0) c.in-Rows.is f.buf_after in
+    written-report c.args.input.now room f.value (search rules) (length-replicate {A = ℕ} (room_rows * row_bytes) 0) c.in-Ok.is f.buf_after in
     rw there.text at c.put_account.ensures
 
 -- where it refuses
-pub returns-in-Refused : goal.returns-in-Refused
-returns-in-Refused c =
+pub returns-in-Err : goal.returns-in-Err
+returns-in-Err c =
     rw
-    (refused_report c.args.input.now room c.fill-filled.ensures.value (search rules) (length-replicate {A = ℕ} (room_rows * row_bytes) 0) c.in-Refused.is) at
-    c.put_refusal-in-Refused.ensures
+    (refused_report c.args.input.now room c.fill.ensures.value (search rules) (length-replicate {A = ℕ} (room_rows * row_bytes) 0) c.in-Err.is) at
+    c.put_refused-in-Err.ensures

@@ -1,11 +1,29 @@
--- `compare::up_to_gas_is` meets its contract: its two parts, one after the other (`same_append`).
-use mathlib.Core.Path.{sym}
-use lib.ListN.{take, drop}
-use borrow.Author.Rules.{rules}
-use Rattle.model.specs.Columns.{up_to_gas}
-use Rattle.compare.proofs.SameLaws.{same_append}
+-- `compare::up_to_gas_is` meets its contract: cell by cell.
+use mathlib.Core.Bool.{and_assoc, and-true}
+use Rattle.number.specs.Cells.{decode}
+use Rattle.model.specs.Columns.{row_at}
+use Rattle.model.specs.Constraints.{equal}
+use Rattle.compare.specs.Same.{same_in}
 use Rattle.compare.proofs.up_to_gas_is.Goals as goal
 
 pub returns : goal.returns
+unfolding same_in equal decode row_at
 returns c =
-    rw (c.up_to_end2_is.ensures, c.from_byte1_is.ensures) (sym (same_append (take 6 up_to_gas) (drop 6 up_to_gas) _ _))
+    rw (
+      ← c.bytes-bytes.ensures,
+      c.cells_are.ensures,
+      c.cells_are-2.ensures,
+      c.eq.ensures,
+      c.wide_at.ensures,
+      c.eq-2.ensures,
+      c.wide_at-2.ensures,
+      c.cells_are-3.ensures,
+      c.eq-3.ensures,
+      c.wide_at-3.ensures,
+      c.u24_at.ensures,
+      c.u24_at-2.ensures,
+      c.u24_at-3.ensures,
+      c.cells_are-4.ensures,
+      c.u32_at.ensures,
+    )
+    (simp (and_assoc, and-true))

@@ -1,8 +1,10 @@
--- `count::count_row` counts one more row by its cells (`counted_cells`).
-use mathlib.Core.Path.{refl}
-use borrow.Author.Rules.{rules}
-use Rattle.count.proofs.CountLaws.{counted_cells}
+-- `count::count_row` counts one more row, number by number: a test as a number is its bit.
+use mathlib.Core.Bool.{not-not}
+use Rattle.model.specs.Constraints.{in_use}
+use Rattle.words.proofs.WordLaws.{from_bool_bit}
 use Rattle.count.proofs.count_row.Goals as goal
 
 pub returns : goal.returns
-returns c = counted_cells _ _ _ _ _ _ refl refl refl c.count_cells.ensures
+unfolding in_use
+returns c =
+    simp (c.from.ensures, c.from-2.ensures, c.from-3.ensures, c.starts_cycle-starts.ensures, from_bool_bit, not-not)

@@ -1,6 +1,5 @@
 -- `cycle::is_within` meets its contract: the two tests are the model's.
 use mathlib.Core.Path.{refl}
-use borrow.Author.Rules.{rules}
 use Rattle.model.specs.Trace.{in_bounds}
 use Rattle.cycle.proofs.is_within.Goals as goal
 

@@ -2,7 +2,6 @@
 use Prim.Native.Nat.{suc}
 use mathlib.Core.Bool.{true, false}
 use mathlib.Core.Path.{sym, ap, ◌∙◌}
-use borrow.Author.Rules.{rules}
 use Rattle.claim.specs.Told.{plain_claim}
 use Rattle.cycle.proofs.CycleLaws.{last_of_lem}
 use Rattle.cycle.proofs.rows_of.Goals as goal

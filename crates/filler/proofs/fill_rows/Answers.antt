@@ -2,7 +2,7 @@
 -- (`too_short`); any other is stored, its empty rows first (`empty_stored`, `filled_buffer`).
 use Prim.Native.Nat.{◌+◌}
 use mathlib.Core.List.{List}
-use mathlib.Core.Path.{◌≡◌, sym, ap}
+use mathlib.Core.Path.{◌≡◌, refl, sym, ap}
 use native.Mathlib.Omega.{arith}
 use borrow.Author.Rules.{rules}
 use lib.ListN.{length}
@@ -10,7 +10,7 @@ use Rattle.model.specs.Cycles.{Claim}
 use Rattle.model.specs.Trace.{trace}
 use Rattle.model.proofs.JoinLaws.{length-trace}
 use Rattle.lines.specs.Lines.{list_claims}
-use Rattle.filler.specs.declared.Filled.TheVariants.{Rows, Refused}
+use Rattle.std.specs.Prelude.{Ok}
 use Rattle.filler.proofs.FillLaws.{too_many, too_short, there_is_room, empty_stored, filled_buffer}
 use Rattle.filler.proofs.fill_rows.Goals as goal
 
@@ -18,24 +18,23 @@ pub returns-then-rows_left-empty : goal.returns-then-rows_left-empty
 returns-then-rows_left-empty c =
     let a = c.args in
     let e = too_many (length a.buf.now) a.empty a.rows (list_claims a.list.now) c.requires.rows_value c.requires.empty_nonzero (search rules) in
-    record { value = rw e (ap Refused c.fill_too_long.ensures); buf_after = rw e }
+    record { value = rw e refl; buf_after = rw e }
 
 pub returns-then-buf-all : goal.returns-then-buf-all
 returns-then-buf-all c =
     let a = c.args in
     let e = too_short (length a.buf.now) a.empty a.rows (list_claims a.list.now) c.requires.rows_value c.requires.empty_nonzero (search rules) (search rules) in
-    record { value = rw e (ap Refused c.buffer_short.ensures); buf_after = rw e }
+    record { value = rw e refl; buf_after = rw e }
 
 pub put_empty-requires : goal.put_empty-requires
 put_empty-requires c = omega arith
 
-pub read_lines-requires : goal.read_lines-requires
-read_lines-requires c =
+pub put_cycles-requires : goal.put_cycles-requires
+put_cycles-requires c =
     let a = c.args in
     let rows = c.requires.rows_value in record {
       list_len_bound = c.requires.list_len_bound;
-      first_le_max_rows = omega (arith, rows);
-      writable = λ e. record {
+      writable = record {
         lists = c.requires.lists;
         some = c.requires.empty_nonzero;
         empty = empty_stored a.buf.now a.empty (omega arith) c.put_empty.ensures;
@@ -50,4 +49,4 @@ returns c =
     let cs : List Claim = list_claims a.list.now in
     let e = there_is_room (length a.buf.now) a.empty a.rows cs c.requires.rows_value c.requires.empty_nonzero (search rules) (search rules) in
     let rows : length (trace a.empty cs) ≡ a.empty + a.rows = rw c.requires.rows_value (length-trace a.empty cs) in
-    record { value = rw e (ap Rows (sym rows)); buf_after = rw e (filled_buffer a.buf.now a.empty cs (omega arith) c.put_empty.ensures c.read_lines.ensures.buf_after) }
+    record { value = rw e (ap Ok (sym rows)); buf_after = rw e (filled_buffer a.buf.now a.empty cs (omega arith) c.put_empty.ensures c.put_cycles.ensures) }

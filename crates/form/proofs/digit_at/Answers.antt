@@ -1,16 +1,12 @@
--- `form::digit_at` meets its contract: a byte is an index of the table, and its entry is what the character counts (`found`).
-use native.Mathlib.Omega.{arith}
-use borrow.Author.Rules.{rules}
-use Rattle.form.proofs.TableLaws.{found}
+-- `form::digit_at` meets its contract: past the end of the text there is no digit.
+use mathlib.Core.Path.{sym, ◌∙◌, ap}
+use Rattle.form.specs.Table.{digit_in}
+use Rattle.form.proofs.StepLaws.{char_in}
+use Rattle.form.proofs.TableLaws.{digit_past}
 use Rattle.form.proofs.digit_at.Goals as goal
 
-pub overflow_cast-result : goal.overflow_cast-result
-overflow_cast-result c = omega (arith, c.shared_slice_known-1.given c.args.p)
+pub returns-then-p-t : goal.returns-then-p-t
+returns-then-p-t c = c.digit.ensures ∙ ap digit_in (sym (char_in c.args.t.now c.args.p c.if-p-t.true))
 
-pub bounds-d-t : goal.bounds-d-t
-bounds-d-t c = omega (arith, c.shared_slice_known-1.given c.args.p)
-
-pub returns : goal.returns
-returns c =
-    let a = c.args in
-    found a.t.now a.p c.requires.d_value c.requires.p_in_bounds (omega (arith, c.shared_slice_known-1.given a.p))
+pub returns-else-p-t : goal.returns-else-p-t
+returns-else-p-t c = digit_past c.args.t.now c.args.p c.if-p-t.false

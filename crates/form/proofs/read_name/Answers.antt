@@ -1,8 +1,7 @@
 -- `form::read_name` meets its contract: where the number of the characters ends with the name's the name stands there (`name_stands`), else it is walked.
 use Prim.Native.Nat.{◌+◌, ◌-◌, ◌%◌, ◌^◌}
-use mathlib.Core.Path.{◌≡◌, sym, ◌∙◌}
+use mathlib.Core.Path.{◌≡◌, sym}
 use native.Mathlib.Omega.{arith}
-use borrow.Author.Rules.{rules}
 use borrow.Author.Tests.{leb-true, eqb-true}
 use lib.ListN.{length}
 use Rattle.number.proofs.TestLaws.{both}
@@ -13,14 +12,16 @@ use Rattle.form.proofs.read_name.Goals as goal
 pub overflow_add-result : goal.overflow_add-result
 overflow_add-result c =
     let a = c.args in
-    let here = (both _ _ (sym c.stands.ensures ∙ c.if-stands.true)).0 in
-    omega (arith, leb-true (a.p + 8) (length a.t.now) here)
+    omega (arith, leb-true (a.p + 8) (length a.t.now) (both _ _ (sym c.if-stands.ensures)).0, a.name.short)
 
 pub returns-then-stands : goal.returns-then-stands
 returns-then-stands c =
     let a = c.args in
-    let told = both _ _ (sym c.stands.ensures ∙ c.if-stands.true) in
+    let name = a.name in
+    let len = length name.text.now in
+    let told = both _ _ (sym c.if-stands.ensures) in
     let here = leb-true (a.p + 8) (length a.t.now) told.0 in
-    let all : a.name.len + (8 - a.name.len) ≡ 8 = omega arith in
-    let same : low_num a.t.now a.p (a.name.len + (8 - a.name.len)) % 256 ^ a.name.len ≡ a.name.number = rw all (eqb-true _ _ told.1) in
-    sym (name_stands a.t.now (λ i. omega (arith, c.shared_slice_known-1.given i)) a.name.len (8 - a.name.len) a.name.number a.p (omega arith) same)
+    let all : len + (8 - len) ≡ 8 = omega (arith, name.short) in
+    let same : low_num a.t.now a.p (len + (8 - len)) % 256 ^ len ≡ name.number = rw all (eqb-true _ _ told.1) in
+    let stands = name_stands a.t.now (λ i. omega (arith, c.type_inv.t i)) len (8 - len) name.number a.p (omega (arith, name.short)) same in
+    sym (rw (← name.spelled) at stands)

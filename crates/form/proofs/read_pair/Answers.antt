@@ -1,36 +1,45 @@
 -- `form::read_pair` meets its contract: there is no digit, one, or both.
-use mathlib.Core.Path.{◌∙◌, ap}
-use borrow.Author.Rules.{rules}
+use Prim.Native.Nat.{◌+◌}
+use mathlib.Core.Path.{sym, ◌∙◌, ap}
+use native.Mathlib.Omega.{arith}
 use Rattle.long.specs.Halves.{whole}
 use Rattle.long.proofs.LongLaws.{whole_long}
-use Rattle.form.proofs.StepLaws.{no_digit_past}
-use Rattle.form.proofs.TableLaws.{no_digit}
-use Rattle.form.proofs.RunLaws.{pair_none, pair_one, pair_both}
+use Rattle.form.specs.Read.{char_at}
+use Rattle.form.proofs.TableLaws.{digit_some, digit_none, digit_inside}
+use Rattle.form.proofs.RunLaws.{pair_none, pair_one, pair_told}
 use Rattle.form.proofs.read_pair.Goals as goal
 
-pub returns-then-t-p : goal.returns-then-t-p
-returns-then-t-p c =
+pub returns-in_default : goal.returns-in_default
+returns-in_default c =
     let a = c.args in
-    pair_none a.t.now a.p (no_digit_past a.t.now a.p c.if-t-p.true)
+    pair_none a.t.now a.p (digit_none _ (sym c.in_default.ensures))
 
-pub returns-then-a-gt15 : goal.returns-then-a-gt15
-returns-then-a-gt15 c =
+pub overflow_add-q : goal.overflow_add-q
+overflow_add-q c =
     let a = c.args in
-    pair_none a.t.now a.p (no_digit _ (rw c.digit_at-a.ensures at c.if-a-gt15.true))
+    omega (arith, digit_inside a.t.now a.p (sym c.in-Some.ensures))
 
-pub returns-then-t-q : goal.returns-then-t-q
-returns-then-t-q c =
+pub returns-in_default-digit_at : goal.returns-in_default-digit_at
+returns-in_default-digit_at c =
     let a = c.args in
-    pair_one a.t.now a.p (rw c.digit_at-a.ensures at c.if-a-gt15.false) (no_digit_past a.t.now _ c.if-t-q.true)
+    pair_one a.t.now a.p (sym c.in-Some.ensures) (digit_none _ (sym c.in_default-digit_at.ensures))
 
-pub returns-then-b-gt15 : goal.returns-then-b-gt15
-returns-then-b-gt15 c =
+pub overflow_mul-a : goal.overflow_mul-a
+overflow_mul-a c = omega (arith, (digit_some (char_at c.args.t.now c.args.p) (sym c.in-Some.ensures)).2)
+
+pub overflow_add-a : goal.overflow_add-a
+overflow_add-a c =
     let a = c.args in
-    pair_one a.t.now a.p (rw c.digit_at-a.ensures at c.if-a-gt15.false) (no_digit _ (rw c.digit_at-b.ensures at c.if-b-gt15.true))
+    omega
+    (arith, (digit_some (char_at a.t.now a.p) (sym c.in-Some.ensures)).2, (digit_some (char_at a.t.now (a.p + 1)) (sym c.in-Some-digit_at.ensures)).2)
+
+pub overflow_add-result : goal.overflow_add-result
+overflow_add-result c =
+    let a = c.args in
+    omega (arith, digit_inside a.t.now (a.p + 1) (sym c.in-Some-digit_at.ensures))
 
 pub returns : goal.returns
 returns c =
     let a = c.args in
-    let value = ap whole c.small.ensures ∙ whole_long _ in
-    rw (value, c.digit_at-a.ensures, c.digit_at-b.ensures)
-    (pair_both a.t.now a.p (rw c.digit_at-a.ensures at c.if-a-gt15.false) (rw c.digit_at-b.ensures at c.if-b-gt15.false))
+    let value = ap whole c.from-2.ensures ∙ whole_long _ ∙ c.from.ensures in
+    rw value (pair_told a.t.now a.p (sym c.in-Some.ensures) (sym c.in-Some-digit_at.ensures))

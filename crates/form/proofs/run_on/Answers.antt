@@ -1,53 +1,46 @@
--- `form::run_on` meets its contract. The invariant: the run goes on from here as the whole of it (`Running`), and what was read has no more than its digits
--- behind the 16 of the first half, so there is room for one more. The measure is what is left to the last place.
-use Prim.Native.Nat.{suc, ◌+◌, ◌*◌, ◌-◌, ◌^◌, ◌<◌}
-use mathlib.Core.Path.{◌≡◌, ◌∙◌, ap}
+-- `form::run_on` meets its contract. The invariant: the run goes on from here as the whole of it (`Running`), and what was read leaves room for the digits
+-- that may come.
+use Prim.Native.Nat.{suc, ◌+◌, ◌-◌}
+use mathlib.Core.Path.{◌≡◌, sym}
 use native.Mathlib.Omega.{arith}
-use borrow.Author.Rules.{rules}
-use Rattle.long.specs.Halves.{whole}
-use Rattle.long.proofs.LongLaws.{whole_long}
-use Rattle.form.specs.Read.{last_place}
-use Rattle.form.proofs.RunLaws.{Running, running_first, running_next, running_ends, running_last, digit_room, digit_less}
+use lib.ListN.{get_or}
+use Rattle.form.proofs.RunLaws.{running_first, running_next, running_ends, running_last, digits_fit, digit_less}
+use Rattle.form.proofs.TableLaws.{digit_some}
 use Rattle.form.proofs.run_on.Goals as goal
 
 pub loop-at-init : goal.loop-at-init
-loop-at-init c =
+loop-at-init g c =
     let a = c.args in
-    let first : whole c.small-value.result ≡ a.v = ap whole c.small-value.ensures ∙ whole_long a.v in
-    let none : 16 + (a.p - a.p) ≡ 16 = omega arith in
-    (c.last_place-end.ensures, rw first (running_first a.t.now a.most a.v a.p), rw (first, none) (omega arith))
+    let all : a.p + a.most - a.p ≡ a.most = omega arith in
+    (running_first a.t.now a.most _ a.p, rw all c.requires.small)
 
-pub digit_at-c-requires : goal.digit_at-c-requires
-digit_at-c-requires c =
+pub with_digit-value-requires : goal.with_digit-value-requires
+with_digit-value-requires g c =
     let l = c.loop-at in
-    record { d_value = c.requires.d_value; p_in_bounds = omega (arith, l.invariant.0, l.invariant.1.from) }
-
-pub returns-then-c-gt15 : goal.returns-then-c-gt15
-returns-then-c-gt15 c =
-    let l = c.loop-at in
-    let a = c.args in
-    (running_ends a.t.now a.most a.v a.p l.invariant.1 (rw c.digit_at-c.ensures at c.if-c-gt15.true), l.invariant.1.from)
-
-pub push_digit-value-requires : goal.push_digit-value-requires
-push_digit-value-requires c =
-    let l = c.loop-at in
-    let a = c.args in
-    (digit_room l.value (16 + (l.at - a.p)) l.invariant.2 (omega (arith, l.invariant.0, l.invariant.1.from)), omega arith)
+    record {
+      has_room = digits_fit _ _ g.N.Spelled.most l.invariant.1 (omega (arith, l.invariant.0.from));
+      is_digit = (digit_some (get_or c.args.t.now l.at 0) (sym c.in-Some.ensures)).2;
+    }
 
 pub loop-at-preserved : goal.loop-at-preserved
-loop-at-preserved c =
+loop-at-preserved g c =
     let l = c.loop-at in
     let a = c.args in
-    let d = c.digit_at-c in
-    let more : whole c.push_digit-value.result ≡ whole l.value * 16 + d.result = ap whole c.push_digit-value.ensures ∙ whole_long _ in
-    let s : 16 + (l.at + 1 - a.p) ≡ suc (16 + (l.at - a.p)) = omega (arith, l.invariant.1.from) in (
-      l.invariant.0,
-      rw (more, d.ensures) (running_next a.t.now a.most a.v a.p l.invariant.1 (omega arith) (rw d.ensures at c.if-c-gt15.false)),
-      rw (more, s) (digit_less (whole l.value) d.result (16 + (l.at - a.p)) l.invariant.2 (omega arith)),
+    let more : g.N.Spelled.most + 1 - (a.p + a.most - (l.at + 1)) ≡ suc (g.N.Spelled.most + 1 - (a.p + a.most - l.at)) =
+    omega (arith, l.invariant.0.from) in (
+      rw c.with_digit-value.ensures (running_next a.t.now a.most _ a.p l.invariant.0 (omega arith) (sym c.in-Some.ensures)),
+      rw (c.with_digit-value.ensures, more) (digit_less _ _ _ l.invariant.1 (digit_some _ (sym c.in-Some.ensures)).2),
     )
 
-pub returns : goal.returns
-returns c =
+pub returns-in_default : goal.returns-in_default
+returns-in_default g c =
     let l = c.loop-at in
     let a = c.args in
-    (running_last a.t.now a.most a.v a.p l.invariant.1 (omega arith), l.invariant.1.from)
+    record { run = running_ends a.t.now a.most _ a.p l.invariant.0 (omega arith) (sym c.in_default.ensures); forward = omega (arith, l.invariant.0.from) }
+
+pub returns : goal.returns
+returns g c =
+    let l = c.loop-at in
+    let a = c.args in
+    let end : c.last_place-end.result ≡ l.at = omega arith in
+    record { run = rw end (running_last a.t.now a.most _ a.p l.invariant.0 (omega arith)); forward = omega arith }

@@ -1,18 +1,10 @@
--- `form::run_on` meets its contract. The invariant: the run goes on from here as the whole of it (`Running`), and what was read has no more than its digits
--- behind the 16 of the first half, so there is room for one more. The measure is what is left to the last place.
-use Prim.Native.Nat.{suc, ◌+◌, ◌*◌, ◌-◌, ◌^◌, ◌<◌}
-use mathlib.Core.Path.{◌≡◌, ◌∙◌, ap}
-use native.Mathlib.Omega.{arith}
-use borrow.Author.Rules.{rules}
-use Rattle.long.specs.Halves.{whole}
-use Rattle.long.proofs.LongLaws.{whole_long}
-use Rattle.form.specs.Read.{last_place}
-use Rattle.form.proofs.RunLaws.{Running, running_first, running_next, running_ends, running_last, digit_room, digit_less}
+-- `form::run_on` meets its contract. The invariant: the run goes on from here as the whole of it (`Running`), and what was read leaves room for the digits
+-- that may come.
+use Prim.Native.Nat.{◌+◌, ◌-◌, ◌^◌, ◌<◌}
+use Rattle.form.proofs.RunLaws.{Running}
 use Rattle.form.proofs.run_on.Given as goal
 
 abbrev pub invariant-loop-at : goal.invariant-loop-at
-invariant-loop-at l =
-    (l.end ≡ last_place l.t l.p l.most) × Running l.t l.most l.v l.p (whole l.value) l.at × (whole l.value < 16 ^ (16 + (l.at - l.p)))
-
-abbrev pub decreases-loop-at : goal.decreases-loop-at
-decreases-loop-at l = l.end - l.at
+invariant-loop-at g l =
+    Running l.t l.most (g.N.Spelled.value l.fn.start) l.p (g.N.Spelled.value l.value) l.at
+    × (g.N.Spelled.value l.value < 16 ^ (g.N.Spelled.most + 1 - (l.p + l.most - l.at)))

@@ -17,7 +17,7 @@ returns c =
     let y = c.u24_at.result in
     let z = c.u32_at.result in
     let w = val c.wide_at.result in
-    let same : be 1 x ++ (be 3 y ++ (be 4 z ++ be 17 w)) ≡ encode widths (decode widths a.t.now a.p) = cc (four_cells a.t.now a.p) in
+    let same : be 1 x ++ (be 3 y ++ (be 4 z ++ be 17 w)) ≡ encode widths (decode widths a.v.now 0) = cc (four_cells a.v.now 0) in
     c.put_wide.ensures
     ∙ sets_then _ 4 4 z (be 17 w) c.put_u32.ensures
     ∙ sets_then _ 1 3 y (be 4 z ++ be 17 w) c.put_u24.ensures

@@ -2,22 +2,16 @@
 use mathlib.Core.Path.{◌≡◌, ◌∙◌, ap}
 use native.Mathlib.Numerals.{add-one}
 use native.Mathlib.Omega.{arith}
-use borrow.Author.Rules.{rules}
-use lib.ListN.{set}
-use Rattle.model.specs.Columns.{row_at}
-use Rattle.state.specs.Plain.{context, state}
-use Rattle.recent.specs.Notes.{plain_span, recalled, slot_of}
+use Rattle.state.specs.Plain.{context}
+use Rattle.recent.specs.Notes.{noted}
 use Rattle.lines.proofs.put_claim.Goals as goal
 
-pub put_cycle-requires : goal.put_cycle-requires
-put_cycle-requires c =
-    record { row_bytes_in_bounds = c.requires.room; sound = rw c.recall-before.ensures c.requires.sound }
+pub invariant_of-cycle : goal.invariant_of-cycle
+invariant_of-cycle c = record { sound = rw c.recall-before.ensures c.requires.sound }
 
-pub returns : goal.returns
-returns c =
-    let a = c.args in
-    let last = c.rows_of.ensures in
-    record {
-      buf_after = rw (← c.recall-before.ensures, ← add-one a.cycles) c.put_cycle.ensures;
-      notes_after = c.note.ensures ∙ ap (set a.notes.now (slot_of (context a.c.context))) (omega (arith, last));
-    }
+pub returns-clause-buf_after : goal.returns-clause-buf_after
+returns-clause-buf_after c = rw (← c.recall-before.ensures, ← add-one c.args.cycles) c.put.ensures
+
+pub returns-clause-recent_after : goal.returns-clause-recent_after
+returns-clause-recent_after c =
+    c.note.ensures ∙ ap (noted c.args.recent.now (context c.args.claim.context)) (omega (arith, c.rows.ensures))

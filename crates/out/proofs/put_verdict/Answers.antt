@@ -13,4 +13,4 @@ pub returns-in-Broken : goal.returns-in-Broken
 returns-in-Broken c = ap (λ (v : Verdict). check_list (numbers v)) (sym c.in-Broken.is)
 
 pub returns-in-Refused : goal.returns-in-Refused
-returns-in-Refused c = ap (λ (v : Verdict). check_list (numbers v)) (sym c.in-Refused.is)
+returns-in-Refused c = rw (c.number.ensures, c.line.ensures) (ap (λ (v : Verdict). check_list (numbers v)) (sym c.in-Refused.is))

@@ -2,7 +2,6 @@
 use Prim.Native.Nat.{◌+◌, ◌*◌, ◌≤◌}
 use native.Mathlib.Omega.{arith}
 use lib.ListN.{length}
-use borrow.Author.Rules.{rules}
 use Rattle.model.specs.Columns.{row_bytes}
 use Rattle.model.specs.Cycles.{part}
 use Rattle.part.proofs.StepLaws.{step_inside, step_part}

@@ -6,16 +6,16 @@ use Rattle.verify.proofs.put_report.Goals as goal
 
 pub returns-then-input-gt-VERIFY_BYTES : goal.returns-then-input-gt-VERIFY_BYTES
 returns-then-input-gt-VERIFY_BYTES c =
-    rw (answer-long _ c.if-input-gt-VERIFY_BYTES.true) (rw c.too_many_rows-long.ensures at c.put_refusal.ensures)
+    rw (answer-long _ c.if-input-gt-VERIFY_BYTES.true) (c.put_refused.ensures)
 
 -- else the answer is the checker's
 
 pub returns-in-Accepted : goal.returns-in-Accepted
-returns-in-Accepted c = rw (answer_checked _ (search rules) ∙ sym c.check-verdict.ensures ∙ c.in-Accepted.is) c.put_accepted.ensures
+returns-in-Accepted c = rw (answer_checked _ (search rules) ∙ sym c.check.ensures ∙ c.in-Accepted.is) c.put_accepted.ensures
 
 pub returns-in-Broken : goal.returns-in-Broken
-returns-in-Broken c = rw (answer_checked _ (search rules) ∙ sym c.check-verdict.ensures ∙ c.in-Broken.is) c.put_broken.ensures
+returns-in-Broken c = rw (answer_checked _ (search rules) ∙ sym c.check.ensures ∙ c.in-Broken.is) c.put_broken.ensures
 
 pub returns-in-Refused : goal.returns-in-Refused
 returns-in-Refused c =
-    rw (answer_checked _ (search rules) ∙ sym c.check-verdict.ensures ∙ c.in-Refused.is) c.put_refusal-in-Refused.ensures
+    rw (answer_checked _ (search rules) ∙ sym c.check.ensures ∙ c.in-Refused.is) c.put_refused-in-Refused.ensures

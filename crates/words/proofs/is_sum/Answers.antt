@@ -1,17 +1,11 @@
--- `words::is_sum` meets its contract: each call is put for what it says, and `eqb_plus` joins the three parts.
-use Rattle.std.proofs.Common.{arith, rules}
-use Rattle.words.proofs.SumLaws.{eqb_plus}
-use Rattle.words.proofs.WordLaws.{through}
+-- `words::is_sum` meets its contract: what the parts carry is known, and `eqb_sum` joins the three parts.
+use Rattle.std.proofs.Common.{arith}
+use Rattle.words.proofs.SumLaws.{carries, eqb_sum}
 use Rattle.words.proofs.is_sum.Goals as goal
 
 pub returns : goal.returns
 returns c =
-    through (eqb_plus _ _ _ (omega arith) (omega arith) (omega arith) (omega arith) (omega arith))
-    (rw (
-      c.byte-2.ensures.0,
-      c.byte.ensures.0,
-      c.wrapping_add_u64-2.ensures.value,
-      c.wrapping_add_u64.ensures.value,
-      c.bit-from_hi.ensures.0,
-      c.bit-from_lo.ensures.0,
-    ))
+    let lo = carries _ _ _ _ (omega arith) (omega arith) c.overflowing_add-lo.ensures.value c.overflowing_add-lo.ensures.overflow in
+    let hi = carries _ _ _ _ (omega arith) (omega arith) c.overflowing_add-hi.ensures.value c.overflowing_add-hi.ensures.overflow in
+    rw (c.from-3.ensures, c.from-2.ensures, c.from-4.ensures)
+    (eqb_sum _ _ _ _ _ _ _ (omega arith) (omega arith) (omega arith) (omega arith) lo (rw c.from.ensures at hi))

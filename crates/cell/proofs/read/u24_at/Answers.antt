@@ -1,7 +1,6 @@
 -- `cell::read::u24_at` meets its contract: the first three of four bytes.
 use Prim.Native.Nat.{◌+◌}
 use native.Mathlib.Omega.{arith}
-use borrow.Author.Rules.{rules}
 use Rattle.number.specs.Num.{num}
 use Rattle.cell.proofs.read.u24_at.Goals as goal
 

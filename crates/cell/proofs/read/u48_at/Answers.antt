@@ -1,7 +1,6 @@
 -- `cell::read::u48_at` meets its contract: the first six of eight bytes (`num-add`, `num-lt`).
 use Prim.Native.Nat.{◌+◌}
 use native.Mathlib.Omega.{arith}
-use borrow.Author.Rules.{rules}
 use Rattle.number.proofs.NumLaws.{num-add, num-lt}
 use Rattle.cell.proofs.read.u48_at.Goals as goal
 

@@ -1,5 +1,4 @@
 -- `cell::read::wide_at` meets its contract: the three parts are those of the number in 17 bytes (`val-num`).
-use borrow.Author.Rules.{rules}
 use Rattle.number.proofs.WholeLaws.{val-num}
 use Rattle.cell.proofs.read.wide_at.Goals as goal
 

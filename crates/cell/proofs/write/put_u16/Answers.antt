@@ -1,9 +1,8 @@
--- `write::put_u16` meets its contract: the bytes of the number turned round, from the last on, are its bytes (`le_swap`).
-use Rattle.cell.proofs.LowLaws.{le_swap}
-use borrow.Author.Rules.{rules}
+-- `write::put_u16` meets its contract: std's bytes of the number are its bytes (`be_high`).
+use mathlib.Core.Path.{◌∙◌, ap}
+use lib.Seq.{sets}
+use Rattle.cell.proofs.WriteLaws.{be_high}
 use Rattle.cell.proofs.write.put_u16.Goals as goal
 
 pub returns : goal.returns
-returns c =
-    let a = c.args in
-    cc (le_swap 2 a.v)
+returns c = c.store.ensures ∙ ap (sets c.args.buf.now c.args.at) (c.to_be_bytes.ensures ∙ be_high 2 c.args.v)

@@ -1,7 +1,6 @@
 -- `write::put_u24` meets its contract: two bytes and then one (`sets_cut`).
 use Rattle.number.proofs.StoreLaws.{sets_cut}
-use Rattle.cell.proofs.LowLaws.{be-two}
-use borrow.Author.Rules.{rules}
+use Rattle.cell.proofs.WriteLaws.{be-two}
 use Rattle.cell.proofs.write.put_u24.Goals as goal
 
 pub returns : goal.returns

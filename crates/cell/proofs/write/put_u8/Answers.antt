@@ -1,6 +1,5 @@
 -- `cell::write::put_u8` meets its contract: one store of the byte itself.
 use native.Mathlib.Omega.{arith}
-use borrow.Author.Rules.{rules}
 use Rattle.number.proofs.NumLaws.{be-one}
 use Rattle.cell.proofs.write.put_u8.Goals as goal
 

@@ -3,7 +3,6 @@ use mathlib.Core.List.{◌++◌}
 use mathlib.Core.Path.{◌∙◌, sym, ap}
 use native.Mathlib.Omega.{arith}
 use lib.Seq.{sets}
-use borrow.Author.Rules.{rules}
 use Rattle.number.specs.Num.{be}
 use Rattle.number.proofs.StoreLaws.{sets_then}
 use Rattle.number.proofs.WholeLaws.{be-val}

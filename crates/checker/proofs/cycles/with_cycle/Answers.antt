@@ -1,9 +1,7 @@
 -- `checker::cycles::with_cycle` counts the cycle, and counts it as out of bounds where it has so many rows (`long_out`).
-use borrow.Author.Rules.{rules}
 use Rattle.claim.specs.Told.{plain_claim}
 use Rattle.checker.proofs.CycleLaws.{long_out}
 use Rattle.checker.proofs.cycles.with_cycle.Goals as goal
 
 pub returns : goal.returns
-returns c =
-    rw (c.bit.ensures.0, c.rows_of.ensures, long_out (plain_claim c.args.claim))
+returns c = rw (c.from.ensures, c.rows_of.ensures, long_out (plain_claim c.args.claim))

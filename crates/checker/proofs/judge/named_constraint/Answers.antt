@@ -1,9 +1,12 @@
--- `checker::judge::named_constraint` answers by `first_broken` on the three rows as they are read.
-use borrow.Author.Rules.{rules}
-use Rattle.checker.proofs.RowLaws.{first_of_rows}
+-- `checker::judge::named_constraint` names the first constraint of the three rows as they are read.
+use mathlib.Core.Path.{◌∙◌, ap}
+use Rattle.rules.specs.First.{named}
+use Rattle.checker.proofs.RowLaws.{first_of_window}
 use Rattle.checker.proofs.judge.named_constraint.Goals as goal
 
 pub returns : goal.returns
 returns c =
-    first_of_rows _ _ _ _ _ _ _ _ _ _ c.keeps_state-nine.ensures c.two_before-a.ensures c.row_before-b.ensures c.read_row-x.ensures
-    c.rule25.ensures c.first_broken.ensures
+    (rw c.rule25.ensures at c.first_broken.ensures)
+    ∙ ap named
+    (first_of_window _ _ _ _ _ _ _ _ c.saturating_sub.ensures c.row_before.ensures c.row_before-2.ensures (c.read.ensures ∙ c.row.ensures)
+    c.keeps_state-nine.ensures)

@@ -1,6 +1,5 @@
 -- `claim::instruction::unused_zero` meets its contract: it makes the same tests.
 use mathlib.Core.Path.{refl}
-use borrow.Author.Rules.{rules}
 use Rattle.claim.specs.Instruction.{unused_zero}
 use Rattle.claim.proofs.instruction.unused_zero.Goals as goal
 

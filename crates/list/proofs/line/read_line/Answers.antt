@@ -1,20 +1,41 @@
 -- `list::line::read_line` meets its contract: cn and op, both ranges and the newline are the line (`line-parts`).
-use borrow.Author.Rules.{rules}
-use Rattle.form.proofs.StepLaws.{known}
-use Rattle.list.specs.Told.{head_read, ranges_read}
+use mathlib.Core.Path.{◌∙◌}
+use Rattle.form.proofs.StepLaws.{on_got, on_stop, stopped}
+use Rattle.claim.specs.Told.{plain_fields}
+use Rattle.list.specs.Line.{read_four, closed}
 use Rattle.list.proofs.PartLaws.{line-parts}
 use Rattle.list.proofs.line.read_line.Goals as goal
 
-pub returns-in-Stop : goal.returns-in-Stop
-returns-in-Stop c = rw (line-parts, known head_read c.in-Stop.is c.read_head-head.ensures)
+pub returns-in_err-head : goal.returns-in_err-head
+returns-in_err-head c = rw line-parts (stopped plain_fields _ c.from_residual.ensures.1 ∙ on_stop _ c.in_err-head.ensures)
 
-pub returns-in-Stop-ranges : goal.returns-in-Stop-ranges
-returns-in-Stop-ranges c =
-    rw
-    (line-parts, known head_read c.in-Got.is c.read_head-head.ensures, known ranges_read c.in-Stop-ranges.is c.read_ranges-ranges.ensures)
+pub returns-in_err-first : goal.returns-in_err-first
+unfolding read_four
+returns-in_err-first c =
+    rw line-parts
+    (stopped plain_fields _ c.from_residual-in_err-first.ensures.1 ∙ on_stop _ (on_stop _ c.in_err-first.ensures) ∙ on_got _ c.in_ok-head.ensures)
 
-pub returns-in-Got-ranges : goal.returns-in-Got-ranges
-returns-in-Got-ranges c =
-    rw
-    (line-parts, known head_read c.in-Got.is c.read_head-head.ensures, known ranges_read c.in-Got-ranges.is c.read_ranges-ranges.ensures)
-    (rw c.fields_of.ensures at c.read_end.ensures)
+pub returns-in_err-second : goal.returns-in_err-second
+unfolding read_four
+returns-in_err-second c =
+    rw line-parts
+    (stopped plain_fields _ c.from_residual-in_err-second.ensures.1
+    ∙ on_stop _ (on_stop _ c.in_err-second.ensures ∙ on_got _ c.in_ok-first.ensures)
+    ∙ on_got _ c.in_ok-head.ensures)
+
+pub returns-in_err-next : goal.returns-in_err-next
+unfolding read_four closed
+returns-in_err-next c =
+    rw line-parts
+    (stopped plain_fields _ c.from_residual-in_err-next.ensures.1
+    ∙ on_stop _ c.in_err-next.ensures
+    ∙ on_got _ (on_got _ c.in_ok-second.ensures ∙ on_got _ c.in_ok-first.ensures)
+    ∙ on_got _ c.in_ok-head.ensures)
+
+pub returns : goal.returns
+unfolding read_four closed
+returns c =
+    rw line-parts
+    (on_got _ c.in_ok-next.ensures
+    ∙ on_got _ (on_got _ c.in_ok-second.ensures ∙ on_got _ c.in_ok-first.ensures)
+    ∙ on_got _ c.in_ok-head.ensures)

@@ -2,7 +2,6 @@
 -- bytes equals it (`eqb-below`).
 use Prim.Native.Nat.{◌+◌, ◌*◌, ◌^◌}
 use native.Mathlib.Omega.{arith}
-use borrow.Author.Rules.{rules}
 use Rattle.number.specs.Whole.{val}
 use Rattle.number.proofs.WholeLaws.{eqb-below, val-lt}
 use Rattle.number.proofs.wide.is_next.Goals as goal
@@ -11,5 +10,5 @@ pub returns : goal.returns
 returns c =
     let a = c.args in
     let fits = val-lt a.a (omega arith) (omega arith) (omega arith) in
-    rw c.same.ensures
+    rw c.eq.ensures
     (eqb-below (256 ^ 17) a.p.top (val c.push.result) (256 * val a.p + a.b) (val a.a) c.push.ensures fits)

@@ -2,7 +2,6 @@
 -- before it; where those are 0 too, nothing is left.
 use mathlib.Core.Path.{◌∙◌}
 use native.Mathlib.Omega.{arith}
-use borrow.Author.Rules.{rules}
 use Rattle.number.specs.Whole.{val}
 use Rattle.number.proofs.WholeLaws.{minus_last, minus_borrow, minus_all}
 use Rattle.number.proofs.wide.minus.Goals as goal
@@ -21,4 +20,4 @@ returns-then-a-gt0-2 c = minus_borrow _ _ _ _ (omega arith) (omega arith) (omega
 
 pub returns : goal.returns
 unfolding val
-returns c = c.small.ensures ∙ minus_all _ _ _ (omega arith) (omega arith)
+returns c = c.from.ensures ∙ minus_all _ _ _ (omega arith) (omega arith)

@@ -1,7 +1,6 @@
 -- `number::wide::push` meets its contract: `shifts` says what each part gains and loses.
 use mathlib.Core.Path.{refl}
 use native.Mathlib.Omega.{arith}
-use borrow.Author.Rules.{rules}
 use Rattle.number.proofs.WholeLaws.{shifts, shifted_fits}
 use Rattle.number.proofs.wide.push.Goals as goal
 

@@ -1,10 +1,8 @@
 -- The invariant is Going: after so many cycles, back to a row, what is left of the search decides its answer. The row's number falls, since a cycle
 -- has a row. Each break and each further turn is one law of SearchLaws.
-use mathlib.Core.Path.{sym, ◌∙◌}
-use borrow.Author.Rules.{rules}
 use Rattle.model.specs.Columns.{row_at}
 use Rattle.state.specs.Plain.{context}
-use Rattle.state.proofs.SearchLaws.{Going, going_first, ends_at_limit, ends_at_start, ends_at_part, finds, goes_on}
+use Rattle.state.proofs.SearchLaws.{Going}
 use Rattle.state.proofs.look.search_back.Given as goal
 
 abbrev pub invariant-loop-count : goal.invariant-loop-count

@@ -1,27 +1,24 @@
--- `trace::place::rows_of` meets its contract: the part runs over the rows of the place that was told, which are all there (`told_stands`); on a refusal
--- it is empty.
+-- `trace::place::rows_of` meets its contract: the part runs over the rows of the place that was told, which are all there (`told_stands`).
 use mathlib.Core.Path.{sym, ◌∙◌, ap}
 use native.Mathlib.Omega.{arith}
-use borrow.Author.Rules.{rules}
-use Rattle.refusal.specs.declared.Refusal.{Refusal}
-use Rattle.trace.specs.Asked.{where_is}
-use Rattle.trace.proofs.PlaceLaws.{Stands, told_stands, told_refused}
+use Rattle.std.specs.Prelude.{Ok, Err}
+use Rattle.std.proofs.lemmas.Result.{err_from_is_err_and}
+use Rattle.trace.specs.Told.{told_rows}
+use Rattle.trace.proofs.PlaceLaws.{told_stands, told_refused}
 use Rattle.trace.proofs.place.rows_of.Goals as goal
+
+pub returns-in_err-place : goal.returns-in_err-place
+returns-in_err-place c =
+    let e = told_refused _ (sym c.in_err-place.ensures) in
+    let p = err_from_is_err_and c.from_residual.result c.from_residual.ensures.1 in
+    rw (p.1, p.2) (ap Err e.1 ∙ sym (ap (told_rows c.args.t.now) e.2))
 
 pub rows_from-requires : goal.rows_from-requires
 rows_from-requires c =
-    -- the instruction stands at the place that was told
-    let stands = told_stands _ (λ i h. omega (arith, c.shared_slice_known-1.given i)) c.args.k (sym c.place_of-place.ensures ∙ c.in-At.is) in
+    let stands = told_stands _ (λ i h. omega (arith, c.type_inv.t i)) c.args.k (sym c.in_ok-place.ensures) in
     omega (arith, stands.inside)
 
-pub returns-in-At : goal.returns-in-At
-returns-in-At c =
-    -- the instruction stands at the place that was told
-    let stands = told_stands _ (λ i h. omega (arith, c.shared_slice_known-1.given i)) c.args.k (sym c.place_of-place.ensures ∙ c.in-At.is) in
-    record { result_value = rw (stands.cycle, ← stands.rows) c.rows_from.ensures; refused_after = rw stands.cycle }
-
-pub returns-in-Refused : goal.returns-in-Refused
-returns-in-Refused c =
-    let a = c.args in
-    let e = told_refused (where_is a.t.now a.k) (sym c.place_of-place.ensures ∙ c.in-Refused.is) in
-    record { result_value = rw e.2; refused_after = rw e.2 (ap (λ (w : Refusal). w.number) e.1) }
+pub returns : goal.returns
+returns c =
+    let stands = told_stands _ (λ i h. omega (arith, c.type_inv.t i)) c.args.k (sym c.in_ok-place.ensures) in
+    rw (stands.cycle, ← stands.rows) (ap Ok c.rows_from.ensures)

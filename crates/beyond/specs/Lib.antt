@@ -1,0 +1,2 @@
+-- The definitions of `beyond`.
+pub mod Shifted

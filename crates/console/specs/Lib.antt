@@ -1,2 +1,0 @@
--- The definitions of `console`.
-pub mod Input

@@ -1,7 +1,0 @@
--- `number::wide::same` meets its contract: `eqb-val` turns the tests part by part into one of the numbers.
-use native.Mathlib.Omega.{arith}
-use Rattle.number.proofs.WholeLaws.{eqb-val}
-use Rattle.number.proofs.wide.same.Goals as goal
-
-pub returns : goal.returns
-returns c = eqb-val _ _ (omega arith) (omega arith) (omega arith) (omega arith)

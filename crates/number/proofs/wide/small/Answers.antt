@@ -1,8 +1,0 @@
--- `number::wide::small` meets its contract: the parts before the last are 0.
-use native.Mathlib.Omega.{arith}
-use Rattle.number.specs.Whole.{val}
-use Rattle.number.proofs.wide.small.Goals as goal
-
-pub returns : goal.returns
-unfolding val
-returns c = omega arith

@@ -1,0 +1,2 @@
+-- The laws of `refusal` that belong to no one function.
+pub mod NumberLaws

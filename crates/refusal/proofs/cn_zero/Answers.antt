@@ -1,6 +1,0 @@
--- `refusal::cn_zero` has the number that document 01 gives, and the line.
-use mathlib.Core.Path.{refl}
-use Rattle.refusal.proofs.cn_zero.Goals as goal
-
-pub returns : goal.returns
-returns c = refl

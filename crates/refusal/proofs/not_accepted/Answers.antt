@@ -1,6 +1,0 @@
--- `refusal::not_accepted` has the number that document 01 gives, and no line.
-use mathlib.Core.Path.{refl}
-use Rattle.refusal.proofs.not_accepted.Goals as goal
-
-pub returns : goal.returns
-returns c = refl

@@ -1,6 +1,0 @@
--- `refusal::unused_field` has the number that document 01 gives, and the line.
-use mathlib.Core.Path.{refl}
-use Rattle.refusal.proofs.unused_field.Goals as goal
-
-pub returns : goal.returns
-returns c = refl

@@ -1,6 +1,0 @@
--- `words::is_number` meets its contract, by those of `same` and `small`.
-use Rattle.std.proofs.Common.{rules}
-use Rattle.words.proofs.is_number.Goals as goal
-
-pub returns : goal.returns
-returns c = rw (c.same.ensures, c.small.ensures)
