@@ -1,6 +1,6 @@
 #!/usr/bin/env bash
-# Every public function of a library crate stands in the crate `promises`, in a theorem that no second answer meets its contract, or in the table of
-# docs/DECISIONS.md under "What no contract fixes". `rt ci` proves the theorems; here it is seen that none is missing.
+# Every public function of a library crate, and every function by which a type has a trait, stands in the crate `promises`, in a theorem that no second answer
+# meets its contract, or in the table of docs/DECISIONS.md under "What no contract fixes". `rt ci` proves the theorems; here it is seen that none is missing.
 set -euo pipefail
 name=promises
 source "$(dirname "${BASH_SOURCE[0]}")/lib/room.bash"
@@ -25,6 +25,8 @@ functions() {
                 if (match(type, / for /)) {
                     trait = substr(type, 1, RSTART - 1)
                     type = substr(type, RSTART + 5)
+                    type = type ~ /^\(/ ? "Tuple2" : capital(type)
+                    sub(/^[a-z]*::/, "", trait)
                     kind = "trait"
                     count = split(trait, words, /[<>, ]+/)
                     for (i = 1; i <= count; i++) type = type capital(words[i])
@@ -61,7 +63,7 @@ promised() {
 
 # Those of the table.
 excepted() {
-    awk '/^#/ { here = /What no contract fixes$/ } here' docs/DECISIONS.md | sed -nE 's/^\| `([a-z0-9_:]+)` \|.*/\1/p'
+    awk '/^#/ { here = /What no contract fixes$/ } here' docs/DECISIONS.md | sed -nE 's/^\| `([A-Za-z0-9_:]+)` \|.*/\1/p'
 }
 
 functions public | sort > "$room/public"
@@ -76,6 +78,7 @@ none() { [ -z "$2" ] || fail "$1: ${2//$'\n'/, }"; }
 sort "$room/promised" "$room/excepted" > "$room/answered"
 none "two public functions of one name" "$(uniq -d "$room/public")"
 none "stands twice" "$(uniq -d "$room/answered")"
-none "may have a second answer" "$(comm -23 "$room/public" "$room/answered")"
-none "is no public function" "$(comm -13 <(sort "$room/public" "$room/trait") "$room/answered")"
-echo "$(grep -c . "$room/public") public functions: $(grep -c . "$room/promised") with no second answer, $(grep -c . "$room/excepted") excepted"
+sort "$room/public" "$room/trait" > "$room/owing"
+none "may have a second answer" "$(comm -23 "$room/owing" "$room/answered")"
+none "is no public function" "$(comm -13 "$room/owing" "$room/answered")"
+echo "$(grep -c . "$room/owing") functions, public or of a trait: $(grep -c . "$room/promised") with no second answer, $(grep -c . "$room/excepted") excepted"

@@ -2,3 +2,4 @@
 pub mod RowLaws
 pub mod StartLaws
 pub mod CycleLaws
+pub mod RefusalLaws

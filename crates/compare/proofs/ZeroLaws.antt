@@ -9,7 +9,7 @@ use native.Mathlib.Numerals.{add-one}
 use native.Mathlib.Omega.{arith}
 use borrow.Author.Tests.{eq-eqb, eqb-true}
 use lib.Dec.{eqb}
-use lib.ListN.{length, get_or-append, length-append}
+use lib.ListN.{length, get_or, get_or-append, length-append}
 use lib.Seq.{get_or-append_seam}
 use Rattle.number.specs.Cells.{total, decode}
 use Rattle.number.specs.Num.{num}
@@ -41,14 +41,19 @@ pub zero-none : (l : List ℕ) (p : ℕ) → true ≡ eqb (num l p 0) 0
 unfolding num
 zero-none l p = refl
 
-pub zero_next : (l : List ℕ) (x : ℕ) (so_far : Bool) → so_far ≡ eqb (num l 0 (length l)) 0
-    → (so_far && eqb x 0) ≡ eqb (num (l ++ (x ∷ [])) 0 (length (l ++ (x ∷ [])))) 0
+pub zero_next : (l : List ℕ) (p i : ℕ) (so_far : Bool) → so_far ≡ eqb (num l p i) 0 → (so_far && eqb (get_or l (p + i) 0) 0) ≡ eqb (num l p (i + 1)) 0
 unfolding num
-zero_next l x so_far e =
+zero_next l p i so_far e = rw (add-one i, e) (sym (parts-zero 256 (num l p i) (get_or l (p + i) 0) (omega arith)))
+
+-- the same of all bytes of a list and one behind them
+pub zero_behind : (l : List ℕ) (x : ℕ) (so_far : Bool) → so_far ≡ eqb (num l 0 (length l)) 0
+    → (so_far && eqb x 0) ≡ eqb (num (l ++ (x ∷ [])) 0 (length (l ++ (x ∷ [])))) 0
+zero_behind l x so_far e =
     let more = l ++ (x ∷ []) in
     let before : num more 0 (length l) ≡ num l 0 (length l)
     = num_agree more l 0 0 (length l) (λ k h. get_or-append l (x ∷ []) 0 (0 + k) (omega arith)) in
-    rw (length-append, add-one, before, zero-add, get_or-append_seam l x [] 0, e) (sym (parts-zero 256 (num l 0 (length l)) x (omega arith)))
+    let next = zero_next more 0 (length l) so_far (rw before e) in
+    rw (length-append) (rw (zero-add, get_or-append_seam l x [] 0) at next)
 
 -- cells one after the other are 0 where the bytes of all of them are
 cells_zero : (ws l : List ℕ) (p : ℕ) → eqb (num l p (total ws)) 0 ≡ zeros (decode ws l p)

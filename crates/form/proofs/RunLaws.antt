@@ -18,7 +18,7 @@ use Rattle.form.specs.Read.{got, stop, char_at, Run, run, last_place, read_digit
 use Rattle.form.specs.Table.{counts, digit_in}
 use Rattle.form.proofs.ReadLaws.{run_on, run_ends}
 use Rattle.form.proofs.StepLaws.{char_in, no_digit_past, too_few, enough}
-use Rattle.form.proofs.TableLaws.{digit_some, digit_none, some_digit}
+use Rattle.form.proofs.TableLaws.{no_digit, digit_some, digit_none, some_digit}
 
 -- ---- runs
 
@@ -91,11 +91,16 @@ module _ (t : List ℕ) (most v p : ℕ) where
           rest = rw (← digit.1, add-one at) (sym (run_on t (p + most - suc at) value at digit.0) ∙ rw (more, add-one at) at r.rest);
         }
 
+    ends_there : is_digit (char_at t at) ≡ false → record { value = value; next = at } ≡ run most t v p
+    ends_there none = sym (run_ends t (p + most - at) value at none) ∙ r.rest
+
     -- there is none: the run ends
-    pub running_ends : at < last_place t p most → digit_in (get_or t at 0) ≡ None → record { value = value; next = at } ≡ run most t v p
-    running_ends h e =
-        let none = digit_none (char_at t at) (rw (char_in t at (omega (arith, r.from))) e) in
-        sym (run_ends t (p + most - at) value at none) ∙ r.rest
+    pub running_ends : 15 < counts (char_at t at) → record { value = value; next = at } ≡ run most t v p
+    running_ends d = ends_there (no_digit (char_at t at) d)
+
+    -- the same of a character before the last place, by what it counts
+    pub running_none : at < last_place t p most → digit_in (get_or t at 0) ≡ None → record { value = value; next = at } ≡ run most t v p
+    running_none h e = ends_there (digit_none (char_at t at) (rw (char_in t at (omega (arith, r.from))) e))
 
     -- and it ends at the last place
     pub running_last : last_place t p most ≤ at → record { value = value; next = at } ≡ run most t v p

@@ -2,3 +2,4 @@
 pub mod EndLaws
 pub mod LastLaws
 pub mod Theorems
+pub mod RefusalLaws

@@ -170,6 +170,29 @@ refused_numbers t at l {n} {q} e =
     let line = line_in_line n l m.0 m.1 in
     rw e (λ i. record { refused = number i; line = line i; at = q })
 
+-- a list is refused with the number of one of its lines
+list_refused : (k : ℕ) (t : List ℕ) (p l : ℕ) {n m q : ℕ} → list_from k t p l ≡ refused_in n m q → (3 ≤ n) × (n ≤ 6)
+unfolding list_from
+list_refused zero t p l e = clash cc
+list_refused (suc k) t p l {n} {m} {q} e = by (next_line t p) refl e (λ r. list_refused k t r (suc l))
+  where
+    inner : (i : Instruction) (x : Listed) → before i x ≡ refused_in n m q → x ≡ refused_in n m q
+    inner i (instructions is) h = clash cc
+    inner i (refused_in a b r) h = h
+
+    by : (x : Next) → next_line t p ≡ x → list_by l (λ r. list_from k t r (suc l)) x ≡ refused_in n m q
+        → ((r : ℕ) → list_from k t r (suc l) ≡ refused_in n m q → (3 ≤ n) × (n ≤ 6)) → (3 ≤ n) × (n ≤ 6)
+    by list.end h f later = clash cc
+    by (list.one i r) h f later = later r (inner i (list_from k t r (suc l)) f)
+    by (list.refused a r) h f later =
+        let same : a ≡ n = cc in
+        let few = next_refused t p h in
+        (omega (arith, few.0), omega (arith, few.1))
+
+pub read_refused : (first : ℕ) (t : List ℕ) {n m q : ℕ} → read_list first t ≡ refused_in n m q → (3 ≤ n) × (n ≤ 6)
+unfolding read_list
+read_refused first t e = list_refused (suc (length t)) t 0 first e
+
 -- ---- a list is lines
 
 -- a text that is a list from place p on is lines from there to its end

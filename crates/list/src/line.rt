@@ -68,6 +68,7 @@ fn read_named(t: &[u8], p: usize, name: Name, most: usize) -> Result<Read<Long>,
 }
 
 // op.
+#[inline(always)]
 fn read_op(t: &[u8], p: usize) -> Result<Read<Long>, Stop>
     ensures { number result ≡ read_field op_field t.now p }
 {
@@ -76,6 +77,7 @@ fn read_op(t: &[u8], p: usize) -> Result<Read<Long>, Stop>
 }
 
 // cn and op.
+#[inline(always)]
 fn read_head(t: &[u8], p: usize) -> Result<Read<Head>, Stop>
     ensures { told head_values result ≡ read_two cn_field op_field t.now p }
 {
@@ -91,6 +93,7 @@ fn read_head(t: &[u8], p: usize) -> Result<Read<Head>, Stop>
 }
 
 // An offset and a length, by their names.
+#[inline(always)]
 fn read_range(t: &[u8], p: usize, at: Name, len: Name) -> Result<Read<Range>, Stop>
     ensures { told range_values result ≡ read_two (named at.text.now long_digits) (named len.text.now long_digits) t.now p }
 {

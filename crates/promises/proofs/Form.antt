@@ -5,6 +5,9 @@ use Rattle.form.specs.Plain.{matched, number}
 use Rattle.form.specs.Read.{Read, got, stop}
 use Rattle.form.specs.declared.Stop.{Stop}
 use Rattle.promises.proofs.NoSecond.{NoSecond, no_second, equation, given, shared, answer, by}
+use Rattle.long.specs.Halves.{whole}
+use Rattle.form.proofs.U64Spelled.with_digit.Reads as with-digit
+use Rattle.form.proofs.LongSpelled.with_digit.Reads as with-digit-long
 use Rattle.form.proofs.has_char.Reads as has_char
 use Rattle.form.proofs.read_name.Reads as read_name
 use Rattle.form.proofs.read_number.Reads as read_number
@@ -18,6 +21,13 @@ code_matched (stop p) = Err (record { 0 = p })
 again : (m : Result ℕ Stop) → code_matched (matched m) ≡ m
 again (Ok p) = refl
 again (Err s) = refl
+
+-- one digit more
+pub one_with_digit : NoSecond with-digit.Post given answer
+one_with_digit = equation (λ a b. refl)
+
+pub one_with_digit_long : NoSecond with-digit-long.Post given (by whole)
+one_with_digit_long = equation (λ a b. refl)
 
 -- one character
 pub one_has_char : NoSecond has_char.Post (shared given) answer

@@ -31,3 +31,4 @@ pub mod Walker
 pub mod Out
 pub mod Mxp
 pub mod Text
+pub mod Page

@@ -4,12 +4,34 @@ use Prim.Native.Nat.{ℕ, ◌+◌, ◌*◌, ◌-◌, ◌^◌}
 use mathlib.Core.Path.{◌≡◌, refl}
 use native.Mathlib.Omega.{arith}
 use Rattle.number.specs.Whole.{val}
-use Rattle.promises.proofs.NoSecond.{NoSecond, no_second, equation, given, answer, by}
+use Rattle.promises.proofs.NoSecond.{NoSecond, no_second, equation, given, shared, answer, by}
+use Rattle.number.proofs.wide.WideFromU64.from.Reads as from
+use Rattle.number.proofs.wide.WideDefault.default.Reads as default
+use Rattle.number.proofs.wide.WidePartialEq.eq.Reads as eq
+use Rattle.number.proofs.wide.WideOrd.cmp.Reads as cmp
+use Rattle.number.proofs.wide.WidePartialOrd.partial_cmp.Reads as partial_cmp
 use Rattle.number.proofs.wide.is_next.Reads as is-next
 use Rattle.number.proofs.wide.in_bounds.Reads as in_bounds
 use Rattle.number.proofs.wide.minus.Reads as minus
 use Rattle.number.proofs.wide.minus_bound.Reads as minus-bound
 use Rattle.number.proofs.wide.push.Reads as push
+
+-- a small number, and zero
+pub one_from : NoSecond from.Post given (by val)
+one_from = equation (λ a b. refl)
+
+pub one_default : NoSecond default.Post given (by val)
+one_default = equation (λ a b. refl)
+
+-- comparisons
+pub one_eq : NoSecond eq.Post (shared (shared given)) answer
+one_eq = equation (λ a b. refl)
+
+pub one_cmp : NoSecond cmp.Post (shared (shared given)) answer
+one_cmp = equation (λ a b. refl)
+
+pub one_partial_cmp : NoSecond partial_cmp.Post (shared (shared given)) answer
+one_partial_cmp = equation (λ a b. refl)
 
 pub one_is_next : NoSecond is-next.Post given answer
 one_is_next = equation (λ a b. refl)

@@ -1,10 +1,23 @@
 -- No second answer meets the contracts of `row`.
 use mathlib.Core.Path.{refl}
+use denote.Param.Laws.{Laws, IsCopy}
+use denote.RattleType.{RattleType}
+use mir.Syntax.{Dict}
+use Rattle.std.specs.declared.clone.Clone as Clone
+use Rattle.row.specs.declared.group.Group as Group
 use Rattle.number.specs.Whole.{val}
 use Rattle.model.specs.Columns.{row_at}
 use Rattle.row.specs.Plain.{plain}
 use Rattle.row.specs.declared.three.Three.{Three}
-use Rattle.promises.proofs.NoSecond.{NoSecond, equation, given, shared, answer, by}
+use Rattle.promises.proofs.NoSecond.{NoSecond, no_second, equation, given, shared, answer, by}
+use Rattle.row.proofs.group.U8Group.width.Reads as width-one
+use Rattle.row.proofs.group.U8Group.behind.Reads as behind-one
+use Rattle.row.proofs.group.ThreeGroup.width.Reads as width-three
+use Rattle.row.proofs.group.ThreeGroup.behind.Reads as behind-three
+use Rattle.row.proofs.group.U32Group.width.Reads as width-four
+use Rattle.row.proofs.group.U32Group.behind.Reads as behind-four
+use Rattle.row.proofs.group.Tuple2Group.width.Reads as width-two
+use Rattle.row.proofs.group.Tuple2Group.behind.Reads as behind-two
 use Rattle.row.proofs.three.Three.new.Reads as new
 use Rattle.row.proofs.three.Three.last_of.Reads as last-of
 use Rattle.row.proofs.view.RowBytes.of_row.Reads as of-row
@@ -60,3 +73,31 @@ one_memn = equation (λ a b. refl)
 
 pub one_costn : NoSecond costn-of.Post (shared given) answer
 one_costn = equation (λ a b. refl)
+
+-- cells side by side: how many bytes they have, and the number that they make behind another; of one byte, three and four
+pub one_width_one : NoSecond width-one.Post given answer
+one_width_one = equation (λ a b. refl)
+
+pub one_behind_one : NoSecond behind-one.Post given answer
+one_behind_one = no_second _ (λ κ a v e p. p.0) (λ a b. refl)
+
+pub one_width_three : NoSecond width-three.Post given answer
+one_width_three = equation (λ a b. refl)
+
+pub one_behind_three : NoSecond behind-three.Post given answer
+one_behind_three = no_second _ (λ κ a v e p. p.0) (λ a b. refl)
+
+pub one_width_four : NoSecond width-four.Post given answer
+one_width_four = equation (λ a b. refl)
+
+pub one_behind_four : NoSecond behind-four.Post given answer
+one_behind_four = no_second _ (λ κ a v e p. p.0) (λ a b. refl)
+
+-- and two of these
+module _ (A B : RattleType) (l : Laws A) (m : Laws B) (c : IsCopy A) (d : IsCopy B) (g : Group.Ghosts A.Denot) (e : Dict) (h : Clone.Ghosts A.Denot) (f : Dict)
+    (i : Group.Ghosts B.Denot) (j : Dict) (k : Clone.Ghosts B.Denot) (o : Dict) where
+  pub one_width_two : NoSecond (width-two.Post A B l m c d g e h f i j k o) given answer
+  one_width_two = equation (λ a b. refl)
+
+  pub one_behind_two : NoSecond (behind-two.Post A B l m c d g e h f i j k o) given answer
+  one_behind_two = no_second _ (λ κ a v e p. p.0) (λ a b. refl)

@@ -1,6 +1,8 @@
 -- No second answer meets the contracts of `rules`.
 use mathlib.Core.Path.{refl}
-use Rattle.promises.proofs.NoSecond.{NoSecond, equation, given, answer}
+use Rattle.rules.specs.Kept.{numbers}
+use Rattle.promises.proofs.NoSecond.{NoSecond, equation, given, answer, by}
+use Rattle.rules.proofs.cells.KeptFromRow.from.Reads as from
 use Rattle.rules.proofs.steps.rule1.Reads as rule1
 use Rattle.rules.proofs.steps.rule2.Reads as rule2
 use Rattle.rules.proofs.steps.rule3.Reads as rule3
@@ -28,6 +30,10 @@ use Rattle.rules.proofs.within.rule23.Reads as rule23
 use Rattle.rules.proofs.beyond.rule24.Reads as rule24
 use Rattle.rules.proofs.beyond.rule25.Reads as rule25
 use Rattle.rules.proofs.first.first_broken.Reads as first-broken
+
+-- the cells that stay in a cycle
+pub one_from : NoSecond from.Post given (by numbers)
+one_from = equation (λ a b. refl)
 
 -- 1 to 6 and 26
 pub one_rule1 : NoSecond rule1.Post given answer

@@ -19,7 +19,7 @@ pub const SLOTS: usize = 1024;
 
 // The contexts from a lowest to a highest.
 #[derive(Clone, Copy)]
-struct Span {
+pub struct Span {
     lowest: Context,
     highest: Context,
 }

@@ -52,6 +52,20 @@ line_lineless n =
     (λ n8. lined n 9 0 _ _ refl (λ n9. lined n 10 0 _ _ refl (λ n10. lined n 11 0 _ _ refl (λ n11. lined n 12 0 _ _ refl
     (λ n12. lined n 13 0 _ _ refl (λ n13. refl)))))))))))))
 
+-- ---- both at once
+
+-- the refusal with a number, in a line, tells both
+abbrev pub Kept : (n l : ℕ) → Type 0
+Kept n l = (number (in_line n l) ≡ n) × (line (in_line n l) ≡ l)
+
+-- so it is with a number from 1 to 14 without a line
+pub kept_lineless : (n : ℕ) → 1 ≤ n → n ≤ 14 → Kept n 0
+kept_lineless n h k = (number_in_line n 0 h k, line_lineless n)
+
+-- and with one from 3 to 6 in any line
+pub kept_in_line : (n l : ℕ) → 3 ≤ n → n ≤ 6 → Kept n l
+kept_in_line n l h k = (number_in_line n l (omega arith) (omega arith), line_in_line n l h k)
+
 -- each refusal is the one with its number and its line
 pub by_number : (r : Refusal) → in_line (number r) (line r) ≡ r
 by_number ListTooLong = refl

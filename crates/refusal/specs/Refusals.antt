@@ -1,5 +1,5 @@
 -- A refusal by its number. 9 and 10, of a trace that is none, are the model's: its verdict gives them.
-use Rattle.std.specs.Prelude.{ℕ, eqb}
+use Rattle.std.specs.Prelude.{ℕ, List, ◌++◌, eqb, decimal, codes}
 use Rattle.number.specs.Tests.{pick}
 pub use Rattle.model.specs.Verdict.{bad_length, too_many_rows}
 use Rattle.refusal.specs.declared.Refusal.{Refusal}
@@ -79,6 +79,10 @@ line NotAccepted = 0
 line NoInstruction = 0
 line ContextZero = 0
 line LimitTooLow = 0
+
+-- what is shown of a refusal: its number and its line, in decimal
+abbrev pub shown : Refusal → List ℕ
+shown r = codes "refused=" ++ decimal (number r) ++ codes " line=" ++ decimal (line r)
 
 -- the refusal with a number, in this line where it is one of a line
 abbrev pub in_line : (number line : ℕ) → Refusal

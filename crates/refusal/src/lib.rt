@@ -77,8 +77,13 @@ impl Refusal {
     }
 }
 
-// The line that the programs print.
+// The line that the programs print, but for its newline.
 impl fmt::Display for Refusal {
+    ghost use Rattle.std.specs.Prelude.{Some};
+    ghost use Rattle.refusal.specs.Refusals.{shown};
+
+    ghost output = { λ r. Some (shown r) };
+
     fn fmt<W: fmt::Write>(&self, f: &mut fmt::Formatter<W>) -> fmt::Result {
         write!(f, "refused={} line={}", self.number(), self.line())
     }

@@ -1,8 +1,7 @@
 // The parts of a row, read from its bytes: straight on, cell by cell. Three functions of one shape, since three structs have their cells by name.
-#![tactic(auto, unfolding(model::specs::Columns::row_at, number::specs::Cells::decode))]
+#![tactic(auto)]
 
-ghost use Rattle.model.specs.Columns.{row_at};
-ghost use Rattle.row.specs.Plain.{HeadOf, BodyOf, TailOf};
+ghost use Rattle.row.specs.Places.{HeadAt, BodyAt, TailAt};
 
 use crate::cells::{Body, Head, Tail};
 use crate::place;
@@ -10,7 +9,7 @@ use cell::read::{u8_at, u24_at, u32_at, wide_at};
 use model::ROW_BYTES;
 
 pub(crate) fn head_of(row: &[u8; ROW_BYTES]) -> Head
-    ensures { HeadOf (row_at row.now 0) result }
+    ensures { HeadAt row.now 0 result }
 {
     Head {
         stamp: u32_at(row, place::STAMP),
@@ -27,7 +26,7 @@ pub(crate) fn head_of(row: &[u8; ROW_BYTES]) -> Head
 }
 
 pub(crate) fn body_of(row: &[u8; ROW_BYTES]) -> Body
-    ensures { BodyOf (row_at row.now 0) result }
+    ensures { BodyAt row.now 0 result }
 {
     Body {
         mem: u24_at(row, place::MEM),
@@ -44,7 +43,7 @@ pub(crate) fn body_of(row: &[u8; ROW_BYTES]) -> Body
 }
 
 pub(crate) fn tail_of(row: &[u8; ROW_BYTES]) -> Tail
-    ensures { TailOf (row_at row.now 0) result }
+    ensures { TailAt row.now 0 result }
 {
     Tail {
         ebyte: u8_at(row, place::EBYTE),

@@ -2,3 +2,4 @@
 pub mod AdmitLaws
 pub mod PlaceLaws
 pub mod Theorems
+pub mod RefusalLaws

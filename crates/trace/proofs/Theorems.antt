@@ -4,7 +4,8 @@ use mathlib.Core.List.{List}
 use mathlib.Core.Logic.{◌≢◌, ◌⊎◌}
 use mathlib.Core.Path.{◌≡◌, refl, ◌∙◌, ap}
 use lib.ListN.{length, get_or, take, drop}
-use Rattle.std.specs.Prelude.{None}
+use Rattle.std.specs.Prelude.{Some, None, Ok, Err}
+use Rattle.number.proofs.TestLaws.{clash}
 use Rattle.model.specs.Columns.{row_bytes, row_at, rows_of, bytes_of}
 use Rattle.model.specs.Cycles.{Cycle, Claim, instruction, is_instruction, part, instruction_part, instruction_claim}
 use Rattle.model.specs.Promises.{WellSized, FirstBroken, Accepted, claims_in}
@@ -16,7 +17,8 @@ use Rattle.model.proofs.InstructionLaws.{is_instruction_lem, claim_is, part_is}
 use Rattle.model.proofs.VerdictLaws.{verdict_broken, refused_length, refused_rows}
 use Rattle.refusal.specs.Refusals.{not_accepted, no_instruction}
 use Rattle.trace.specs.Asked.{Answer, given, refused, of_accepted, where_is, part_of, claim_in}
-use Rattle.trace.specs.Told.{refusal_of, told_place, PartNumbers, part_numbers}
+use Rattle.refusal.specs.declared.Refusal.{Refusal}
+use Rattle.trace.specs.Told.{refusal_of, told_place, told_rows, PartNumbers, part_numbers}
 use Rattle.trace.proofs.PlaceLaws.{where_none, where_given}
 
 -- ---- the order of refusals
@@ -36,6 +38,15 @@ asked_in_order l asked = record {
   eleven = λ sized i k b. rw ((verdict_broken l i k).1 (sized, b));
   else = λ a. rw a.verdict;
 }
+
+-- the call for the rows refuses by the refusal of what it answers, and where there is none it gives the part
+pub refusal_told : (l : List ℕ) (a : Answer Cycle) {r : Refusal} → refusal_of a ≡ Some r → told_rows l a ≡ Err r
+refusal_told l (given c) e = clash cc
+refusal_told l (refused n) e = cc
+
+pub none_told : (l : List ℕ) (a : Answer Cycle) → refusal_of a ≡ None → told_rows l a ≡ Ok (part_of l a)
+none_told l (given c) e = refl
+none_told l (refused n) e = clash cc
 
 module _ (l : List ℕ) (k : ℕ) where
   -- so it is where the rows or the claim of instruction k are asked for

@@ -4,3 +4,4 @@ pub mod Called
 pub mod Held
 pub mod Lent
 pub mod Theorems
+pub mod RefusalLaws

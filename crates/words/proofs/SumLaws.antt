@@ -1,5 +1,5 @@
 -- The sum of a small number and one of 17 bytes, part by part.
-use Rattle.std.proofs.Common.{◌≡◌, ℕ, ◌+◌, ◌*◌, ◌%◌, ◌^◌, ◌<◌, Bool, true, false, ◌&&◌, eqb, ltb, refl, ap, ◌∙◌, arith, ltb-false, ltb-true, eq-eqb, eqb-true}
+use Rattle.std.proofs.Common.{◌≡◌, ℕ, ◌+◌, ◌*◌, ◌%◌, ◌^◌, ◌<◌, Bool, true, false, ◌&&◌, eqb, ltb, refl, sym, ap, ◌∙◌, arith, ltb-false, ltb-true, eq-eqb, eqb-true}
 use mathlib.Core.Bool.{and_assoc}
 use Rattle.std.specs.Bool.{FalseIff}
 use Rattle.std.specs.Int.{from_bool}
@@ -78,3 +78,11 @@ eqb_plus a n b ah al bh bl hn =
     bit-lt : (t : Bool) → bit t < 2 ^ 64
     bit-lt true = omega arith
     bit-lt false = omega arith
+
+-- the code's test of the parts, with its carries known, is this one
+pub carried : (a b : Wide) (n lo hi f g : ℕ) → a.hi < 2 ^ 64 → a.lo < 2 ^ 64 → b.hi < 2 ^ 64 → b.lo < 2 ^ 64 → n < 2 ^ 64 → lo < 2 ^ 64 → hi < 2 ^ 64
+    → b.lo + n ≡ f * 2 ^ 64 + lo → b.hi + f ≡ g * 2 ^ 64 + hi
+    → ((eqb lo a.lo && eqb hi a.hi) && eqb (b.top + g) a.top)
+    ≡ ((eqb ((n + b.lo) % 2 ^ 64) a.lo && eqb ((bit (ltb a.lo n) + b.hi) % 2 ^ 64) a.hi)
+    && eqb (bit (ltb a.hi (bit (ltb a.lo n))) + b.top) a.top)
+carried a b n lo hi f g ah al bh bl hn hlo hhi e1 e2 = eqb_sum a b n lo hi f g ah al hlo hhi e1 e2 ∙ sym (eqb_plus a n b ah al bh bl hn)

@@ -25,7 +25,7 @@ pub fn implies(a: bool, b: bool) -> bool
 }
 
 // The first where the test passes, else the second.
-pub(crate) fn pick<T: Copy>(t: bool, a: T, b: T) -> T
+pub fn pick<T: Copy>(t: bool, a: T, b: T) -> T
     ensures { result ≡ tests.pick t a b }
 {
     if t { a } else { b }

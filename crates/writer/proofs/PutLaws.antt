@@ -24,21 +24,22 @@ stores_join (c ∷ cs) x l p o =
     stores_join cs x (sets l (p + o) (be c.width (c.cell x))) p (o + c.width)
     ∙ rw (← add_assoc) (sets_then l (p + o) c.width (c.cell x) (encode (map (λ (d : Column). d.width) cs) (cells_in cs x)) refl)
 
--- the stores of two parts are one run of the row's bytes
-pub row_of_parts_stored : {m k : List ℕ} (x : Cells) (l : List ℕ) (i : ℕ)
-    → m ≡ part_stored 0 15 x l (i * row_bytes) → k ≡ part_stored 15 15 x m (i * row_bytes)
-    → k ≡ sets l (i * row_bytes) (encode widths (cells_in columns x))
-row_of_parts_stored {m} {k} x l i a b =
-    let here : k ≡ stores_from columns x l (i * row_bytes) 0 = b ∙ ap (λ (n : List ℕ). part_stored 15 15 x n (i * row_bytes)) a in
-    here ∙ stores_join columns x l (i * row_bytes) 0 ∙ rw add-zero
-
--- and so are the stores of three
+-- the stores of three parts are one run of the row's bytes
 pub row_of_stores : {m k n : List ℕ} (x : Cells) (l : List ℕ) (i : ℕ)
     → m ≡ part_stored 0 9 x l (i * row_bytes) → k ≡ part_stored 9 10 x m (i * row_bytes) → n ≡ part_stored 19 11 x k (i * row_bytes)
     → n ≡ sets l (i * row_bytes) (encode widths (cells_in columns x))
 row_of_stores {m} {k} {n} x l i a b c =
     let here : n ≡ stores_from columns x l (i * row_bytes) 0 = cc in
     here ∙ stores_join columns x l (i * row_bytes) 0 ∙ rw add-zero
+
+-- and so are those of the two parts in which the code stores a row
+pub row_of_parts_stored : {m k : List ℕ} (x : Cells) (l : List ℕ) (i : ℕ)
+    → m ≡ part_stored 0 15 x l (i * row_bytes) → k ≡ part_stored 15 15 x m (i * row_bytes)
+    → k ≡ sets l (i * row_bytes) (encode widths (cells_in columns x))
+row_of_parts_stored {m} {k} x l i a b =
+    let p = i * row_bytes in
+    let here : k ≡ part_stored 19 11 x (part_stored 9 10 x (part_stored 0 9 x l p) p) p = b ∙ ap (λ (n : List ℕ). part_stored 15 15 x n p) a in
+    row_of_stores x l i refl refl here
 
 -- ---- the code's row: what `put_row` and `read_row` promise, together
 

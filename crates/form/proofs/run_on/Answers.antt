@@ -4,7 +4,7 @@ use Prim.Native.Nat.{suc, ◌+◌, ◌-◌}
 use mathlib.Core.Path.{◌≡◌, sym}
 use native.Mathlib.Omega.{arith}
 use lib.ListN.{get_or}
-use Rattle.form.proofs.RunLaws.{running_first, running_next, running_ends, running_last, digits_fit, digit_less}
+use Rattle.form.proofs.RunLaws.{running_first, running_next, running_none, running_last, digits_fit, digit_less}
 use Rattle.form.proofs.TableLaws.{digit_some}
 use Rattle.form.proofs.run_on.Goals as goal
 
@@ -36,7 +36,7 @@ pub returns-in_default : goal.returns-in_default
 returns-in_default g c =
     let l = c.loop-at in
     let a = c.args in
-    record { run = running_ends a.t.now a.most _ a.p l.invariant.0 (omega arith) (sym c.in_default.ensures); forward = omega (arith, l.invariant.0.from) }
+    record { run = running_none a.t.now a.most _ a.p l.invariant.0 (omega arith) (sym c.in_default.ensures); forward = omega (arith, l.invariant.0.from) }
 
 pub returns : goal.returns
 returns g c =

@@ -1,5 +1,5 @@
 -- `lines::put_claim` meets its contract: the state that is recalled is the one that the cycle is written at.
-use mathlib.Core.Path.{◌≡◌, ◌∙◌, ap}
+use mathlib.Core.Path.{◌∙◌, ap}
 use native.Mathlib.Numerals.{add-one}
 use native.Mathlib.Omega.{arith}
 use Rattle.state.specs.Plain.{context}

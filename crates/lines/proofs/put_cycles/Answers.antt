@@ -1,12 +1,14 @@
--- `lines::put_cycles` meets its contract: one turn is `filling_next`. The text is a list: none of its lines is refused (`filling_right`), and at its end the
--- cycles of all of them are written (`filling_end`).
-use mathlib.Core.Path.{◌≡◌, sym, ◌∙◌, ap}
+-- `lines::put_cycles` meets its contract: one turn is `passing_writes` of `filling_next`. At the end of the list the cycles of all its lines are written
+-- (`passing_end`), and a list with a line that is refused is not to be written (`passing_refused`).
+use mathlib.Core.Bool.{true}
+use mathlib.Core.Path.{◌≡◌, refl, sym, ◌∙◌, ap}
 use native.Mathlib.Omega.{arith}
 use borrow.Author.Rules.{rules}
 use Rattle.std.specs.Prelude.{None, Ok}
 use Rattle.list.specs.List.{next_line}
 use Rattle.lines.specs.Reading.{place_after, lines_after}
-use Rattle.lines.proofs.WriteLaws.{Turn, turn_further, turn_counted, turn_writable, filling_first, filling_next, filling_end, filling_right}
+use Rattle.lines.proofs.WriteLaws.{Turn, turn_further, turn_counted, turn_writable, filling_next}
+use Rattle.lines.proofs.PassLaws.{passing_first, passing_writes, passing_end, passing_refused}
 use Rattle.lines.proofs.put_cycles.Goals as goal
 
 pub loop-claim-init : goal.loop-claim-init
@@ -15,7 +17,7 @@ loop-claim-init c =
     record {
       same = first.list;
       counted = sym first.lines;
-      filling = rw (first.at, first.lines, c.new-recent.ensures) (filling_first c.args.list.now c.args.buf.now c.args.first);
+      passing = rw (first.at, first.lines, c.new-recent.ensures) (passing_first true c.args.list.now c.args.buf.now c.args.first);
     }
 
 pub put_claim-requires : goal.put_claim-requires
@@ -24,7 +26,7 @@ put_claim-requires c =
     let i = l.invariant in
     let turn : Turn c.args.list.now c.args.buf.now l.buf l.recent c.args.first l.claims.at l.row l.claims.lines c.in-Ok-Some.claim = record {
       writable = c.requires.writable;
-      filling = i.filling;
+      filling = i.passing.filling refl;
       told = rw i.same at (sym c.next.ensures.value ∙ c.in-Ok-Some.is ∙ ap Ok c.in-Ok-Some.field-0-is);
     } in
     rw i.counted (turn_writable turn)
@@ -35,7 +37,7 @@ overflow_add-row c =
     let i = l.invariant in
     let turn : Turn c.args.list.now c.args.buf.now l.buf l.recent c.args.first l.claims.at l.row l.claims.lines c.in-Ok-Some.claim = record {
       writable = c.requires.writable;
-      filling = i.filling;
+      filling = i.passing.filling refl;
       told = rw i.same at (sym c.next.ensures.value ∙ c.in-Ok-Some.is ∙ ap Ok c.in-Ok-Some.field-0-is);
     } in
     omega (arith, (turn_writable turn).few, c.rows_of-row.ensures)
@@ -46,7 +48,7 @@ loop-claim-smaller c =
     let i = l.invariant in
     let turn : Turn c.args.list.now c.args.buf.now l.buf l.recent c.args.first l.claims.at l.row l.claims.lines c.in-Ok-Some.claim = record {
       writable = c.requires.writable;
-      filling = i.filling;
+      filling = i.passing.filling refl;
       told = rw i.same at (sym c.next.ensures.value ∙ c.in-Ok-Some.is ∙ ap Ok c.in-Ok-Some.field-0-is);
     } in
     let further = turn_further turn in
@@ -59,7 +61,7 @@ loop-claim-preserved c =
     let i = l.invariant in
     let turn : Turn c.args.list.now c.args.buf.now l.buf l.recent c.args.first l.claims.at l.row l.claims.lines c.in-Ok-Some.claim = record {
       writable = c.requires.writable;
-      filling = i.filling;
+      filling = i.passing.filling refl;
       told = rw i.same at (sym c.next.ensures.value ∙ c.in-Ok-Some.is ∙ ap Ok c.in-Ok-Some.field-0-is);
     } in
     let next = c.next.ensures in
@@ -68,16 +70,16 @@ loop-claim-preserved c =
     record {
       same = next.list ∙ i.same;
       counted = omega (arith, turn_counted turn);
-      filling = rw (next.at, next.lines, i.same) filled;
+      passing = rw (next.at, next.lines, i.same) (passing_writes filled);
     }
 
 pub returns-in_default : goal.returns-in_default
 returns-in_default c =
     let i = c.loop-claim.invariant in
     let none : c.next.result ≡ Ok None = search rules in
-    filling_end c.requires.writable.lists i.filling _ (rw i.same at (sym c.next.ensures.value ∙ none))
+    passing_end i.passing (λ e. c.requires.writable) _ (rw i.same at (sym c.next.ensures.value ∙ none))
 
 pub returns-in_default-2 : goal.returns-in_default-2
 returns-in_default-2 c =
     let i = c.loop-claim.invariant in
-    absurd (filling_right c.requires.writable.lists i.filling _ (rw i.same at (sym c.next.ensures.value ∙ c.in_default.is)))
+    passing_refused i.passing (λ e. c.requires.writable) _ (rw i.same at (sym c.next.ensures.value ∙ c.in_default.is))

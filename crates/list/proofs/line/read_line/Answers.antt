@@ -1,5 +1,7 @@
 -- `list::line::read_line` meets its contract: cn and op, both ranges and the newline are the line (`line-parts`).
-use mathlib.Core.Path.{◌∙◌}
+use mathlib.Core.Path.{refl, ◌∙◌}
+use native.Mathlib.Omega.{arith}
+use Rattle.cell.specs.Low.{le}
 use Rattle.form.proofs.StepLaws.{on_got, on_stop, stopped}
 use Rattle.claim.specs.Told.{plain_fields}
 use Rattle.list.specs.Line.{read_four, closed}
@@ -39,3 +41,8 @@ returns c =
     (on_got _ c.in_ok-next.ensures
     ∙ on_got _ (on_got _ c.in_ok-second.ensures ∙ on_got _ c.in_ok-first.ensures)
     ∙ on_got _ c.in_ok-head.ensures)
+
+-- the name of the first length, whose number is its six characters
+pub invariant_of-read_range-2 : goal.invariant_of-read_range-2
+unfolding le
+invariant_of-read_range-2 c = record { short = omega arith; spelled = refl }

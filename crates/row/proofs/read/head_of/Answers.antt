@@ -1,10 +1,7 @@
 -- `row::read::head_of` meets its contract: each cell at its place is the model's.
-use Rattle.number.specs.Cells.{decode}
-use Rattle.model.specs.Columns.{row_at}
 use Rattle.row.proofs.read.head_of.Goals as goal
 
 pub returns : goal.returns
-unfolding row_at decode
 returns c = record {
   stamp = c.u32_at.ensures;
   cn = c.u32_at-2.ensures;
